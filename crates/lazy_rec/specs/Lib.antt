@@ -1,0 +1,12 @@
+pub mod Tests
+pub mod ByPlace
+pub mod Numbers
+pub mod Kinds
+pub mod Plain
+pub mod Due
+pub mod History
+pub mod Named
+pub mod Meaning
+pub mod Units
+pub mod Packed
+pub mod States

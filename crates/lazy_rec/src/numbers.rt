@@ -1,0 +1,1 @@
+//! Binary digits of numbers.

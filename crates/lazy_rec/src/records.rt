@@ -1,0 +1,201 @@
+//! The records that a place can show.
+
+use crate::places::{Item, Ref};
+
+/// Which structure a place belongs to, and as which part of it.
+#[derive(Clone, Copy, Debug, PartialEq, Eq)]
+pub enum Sort {
+    Stream,
+    List,
+    StreamTop,
+    BankTop,
+    RtTop,
+    HeapTop,
+    TreeList,
+    Tree,
+    Cat,
+    Element,
+    Digit,
+    Finger,
+}
+
+/// What a place shows once it is published.
+#[derive(Clone, Copy, Debug, PartialEq, Eq)]
+pub enum Rec {
+    Nil,
+    Cons {
+        child: bool,
+        value: u32,
+        rest: Ref,
+    },
+    LNil,
+    LCons {
+        child: bool,
+        value: u32,
+        rest: Ref,
+    },
+    StreamTop {
+        cells: Ref,
+        size: u32,
+    },
+    BankTop {
+        front: Ref,
+        lenf: u32,
+        rear: Ref,
+        lenr: u32,
+        rotated: bool,
+        origin: Ref,
+        n: u32,
+        tails: u32,
+    },
+    RtTop {
+        front: Ref,
+        lenf: u32,
+        rear: Ref,
+        lenr: u32,
+        sched: Ref,
+    },
+    HeapTop {
+        list: Ref,
+        size: u32,
+        owed: u8,
+    },
+    TNil,
+    TCons {
+        tree: Ref,
+        rest: Ref,
+    },
+    Tree {
+        rank: u8,
+        item: Item,
+        kids: Ref,
+    },
+    CatNil,
+    CatNode {
+        item: Item,
+        kids: Ref,
+        size: u32,
+    },
+    TEmpty,
+    Leaf {
+        item: Item,
+    },
+    Node {
+        count: u8,
+        e1: Ref,
+        e2: Ref,
+        e3: Ref,
+        size: u32,
+        key: Item,
+    },
+    Digit {
+        count: u8,
+        e1: Ref,
+        e2: Ref,
+        e3: Ref,
+        e4: Ref,
+        size: u32,
+        key: Item,
+    },
+    Single {
+        elem: Ref,
+        size: u32,
+        key: Item,
+    },
+    Deep {
+        left: Ref,
+        middle: Ref,
+        right: Ref,
+        size: u32,
+        key: Item,
+    },
+    Append {
+        xs: Ref,
+        ys: Ref,
+        left: u32,
+        origin: Ref,
+        off: u32,
+    },
+    Reverse {
+        xs: Ref,
+        left: u32,
+    },
+    BankRot {
+        xs: Ref,
+        rear: Ref,
+        left: u32,
+        origin: Ref,
+        off: u32,
+    },
+    RtRot {
+        xs: Ref,
+        rear: Ref,
+        acc: Ref,
+        left: u32,
+        origin: Ref,
+        off: u32,
+    },
+    HeapInsert {
+        item: Item,
+        list: Ref,
+        size: u32,
+    },
+    HeapMerge {
+        list1: Ref,
+        list2: Ref,
+        n1: u32,
+        n2: u32,
+    },
+    LinkAll {
+        queue: Ref,
+        len: u32,
+        size: u32,
+        origin: Ref,
+        off: u32,
+    },
+    PushL {
+        tree: Ref,
+        count: u8,
+        e1: Ref,
+        e2: Ref,
+        origin: Ref,
+        off: u8,
+        size: u32,
+        key: Item,
+    },
+    PushR {
+        tree: Ref,
+        count: u8,
+        e1: Ref,
+        e2: Ref,
+        origin: Ref,
+        off: u8,
+        size: u32,
+        key: Item,
+    },
+    DeepL {
+        middle: Ref,
+        digit: Ref,
+        size: u32,
+        origin: Ref,
+        off: u8,
+        key: Item,
+    },
+    DeepR {
+        middle: Ref,
+        digit: Ref,
+        size: u32,
+        origin: Ref,
+        off: u8,
+        key: Item,
+    },
+    Concat {
+        left: Ref,
+        right: Ref,
+        list: Ref,
+        origin: Ref,
+        off: u8,
+        size: u32,
+        key: Item,
+    },
+}
