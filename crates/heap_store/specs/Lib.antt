@@ -13,3 +13,5 @@ pub mod RowCalls
 pub mod Jobs
 pub mod Budget
 pub mod Shared
+pub mod Plain
+pub mod Props
