@@ -15,3 +15,5 @@ pub mod Budget
 pub mod Shared
 pub mod Plain
 pub mod Props
+pub mod Opened
+pub mod Facts

@@ -2,6 +2,9 @@
 -- drawn: a place that no reserve has given yet shows nothing, and a row whose name isn't drawn shows zeros.
 use Rattle.std.specs.Prelude.{◌≡◌, ℕ, suc, ◌+◌, ◌-◌, ◌≤◌, ◌∷◌, [], ◌++◌, replicate, eqb, Bool, true, false, not, ◌||◌, cond, Option, Some, None, List, length, count_by, is_some}
 use Rattle.std.specs.List.{list_all}
+use Rattle.lazy_rec.specs.declared.records.Rec.{Rec}
+use Rattle.lazy_rec.specs.declared.records.Rec.TheVariants.{Nil, LNil, TNil, CatNil, TEmpty}
+use Rattle.lazy_rec.specs.declared.states.SuspState.TheVariants.{Unforced}
 use Rattle.lazy_rec.specs.Tests.{is_some_and, implies}
 use Rattle.lazy_rec.specs.States.{is_claimed}
 use Rattle.heap_store.specs.declared.nodes.Node.{Node}
@@ -24,6 +27,18 @@ filled_up missing n xs = xs ++ replicate (n - length xs) missing
 abbrev pub no_words : List ℕ
 no_words = 0 ∷ 0 ∷ 0 ∷ 0 ∷ 0 ∷ 0 ∷ []
 
+-- a record whose state was never touched
+abbrev pub fresh_node : Rec → Option Node
+fresh_node r = Some (record { rec = r; state = Unforced 0 })
+
+-- the places of a store in which nothing is drawn
+abbrev pub five_records : List (Option Node)
+five_records = fresh_node Nil ∷ fresh_node LNil ∷ fresh_node TNil ∷ fresh_node CatNil ∷ fresh_node TEmpty ∷ []
+
+-- what stands in place of the last refusal where none was
+abbrev pub no_refusal : Full
+no_refusal = record { drawn = 0; wanted = 0 }
+
 -- the places of a list that show nothing, where the first one has this number
 abbrev pub free_places : ℕ → List (Option Node) → List ℕ
 free_places p [] = []
@@ -40,6 +55,11 @@ open_names i (words ∷ rows) = cond (is_ended_row (row_of i words)) (open_names
 
 abbrev pub is_claimed_node : Option Node → Bool
 is_claimed_node o = is_some_and (λ (n : Node). is_claimed n.state) o
+
+-- the row that is worked on after the row of a name has ended
+abbrev pub row_after_end : ℕ → Option OpenRow → Option OpenRow
+row_after_end name None = None
+row_after_end name (Some o) = cond (eqb o.name name) None (Some o)
 
 -- what the drawn places and rows show, in a store of so many places and rows
 abbrev pub plain_world : ℕ → ℕ → List (Option Node) → List (List ℕ) → World
