@@ -6,3 +6,4 @@ pub mod MeaningLaws
 pub mod CompletionLaws
 pub mod MadeLaws
 pub mod RecordLaws
+pub mod Steps
