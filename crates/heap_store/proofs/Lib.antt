@@ -7,3 +7,4 @@ pub mod CompletionLaws
 pub mod MadeLaws
 pub mod RecordLaws
 pub mod Steps
+pub mod ShowLaws
