@@ -8,3 +8,4 @@ pub mod MadeLaws
 pub mod RecordLaws
 pub mod Steps
 pub mod ShowLaws
+pub mod LawfulLaws
