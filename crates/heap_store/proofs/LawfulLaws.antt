@@ -181,12 +181,13 @@ none_next w s r none q t e pend same =
         (and_from _ _ (and_from _ _ pend (eq-eqb _ _ (ap (λ (f : ℕ × ℕ). f.0) same))) (eq-eqb _ _ (ap (λ (f : ℕ × ℕ). f.1) same))) in
     let z : false ≡ true = sym (ap not found) ∙ none in absurd (true≢false (sym z))
 
+-- a place that shows this is claimed or done
+taken_of : Option Node → Bool
+taken_of o = is_some_and (λ d. true) (option_and_then (λ (n : Node). kept n.state) o) || is_some_and (λ (n : Node). is_claimed n.state) o
+
 -- ---- a record is put
 
 module _ (w : World) (p : ℕ) (r : Rec) (inside : p < length w.nodes) (none : node_at w p ≡ None) (law : IsLawful w) where
-  taken_of : Option Node → Bool
-  taken_of o = is_some_and (λ d. true) (option_and_then (λ (n : Node). kept n.state) o) || is_some_and (λ (n : Node). is_claimed n.state) o
-
   put_taken : (m : ℕ) → Up (is_taken w m) (is_taken (show w p r (Unforced 0)) m)
   unfolding taken_of
   put_taken m h = ⊎_elim
@@ -251,4 +252,78 @@ module _ (w : World) (p : ℕ) (r : Rec) (inside : p < length w.nodes) (none : n
           still = λ q t e pend s f. ⊎_elim
               (λ eq. (let z = one_value s (Unforced 0) (sym f ∙ ap (state_at b) eq ∙ state-same w p r (Unforced 0) inside) in rw z refl))
               (λ ne. law.still q t (sym ((show_adds w p r (Unforced 0) inside none).others q ne) ∙ e) pend s (sym (state-other w p r (Unforced 0) inside q ne) ∙ f)) (cases_eq q p);
+        }
+
+-- ---- a suspension shows another state
+
+module _ (w : World) (p : ℕ) (r : Rec) (old s : SuspState) (inside : p < length w.nodes) (here : node_at w p ≡ Some (record { rec = r; state = old })) (law : IsLawful w)
+    (open_yet : kept old ≡ None) (less : given_up old ≤ given_up s) where
+  grown : Grows w (show w p r s)
+  grown = state_grows w p r s inside old here open_yet less
+
+  before : (q : ℕ) (t : Rec) → recs (show w p r s) q ≡ Some t → recs w q ≡ Some t
+  before q t e = sym (recs-show w p r s inside old here q) ∙ e
+
+  own : recs w p ≡ Some r
+  own = ap (option_map (λ (n : Node). n.rec)) here
+
+  -- the suspension stays claimed or done, or has made nothing yet
+  abbrev pub Stays : Type 0
+  Stays = (is_some_and (λ d. true) (kept s) || is_claimed s ≡ true) ⊎ (has_no_next w p r ≡ true)
+
+  module _ (stays : Stays) where
+    taken_still : (origin i : ℕ) (q : ℕ) (t : Rec) → recs w q ≡ Some t → family_of q t ≡ (origin, suc i) → (m : Made w origin i t) → is_taken (show w p r s) m.place ≡ true
+    unfolding taken_of
+    taken_still origin i q t e f m = ⊎_elim
+        (λ eq. ⊎_elim
+          (λ k. ap (is_taken (show w p r s)) eq ∙ (ap taken_of (node-same w p r s inside) ∙ k))
+          (λ none. absurd (none_next w p r none q t e (offset_pending q t i (ap (λ (z : ℕ × ℕ). z.1) f)) (f ∙ ap (λ (z : ℕ × ℕ). (z.0, suc z.1)) (sym (family_here eq)))))
+          stays)
+        (λ ne. ap (taken_of) (node-other w p r s inside m.place ne) ∙ m.taken)
+        (cases_eq m.place p)
+      where
+        family_here : m.place ≡ p → family_of p r ≡ (origin, i)
+        family_here eq = (let same : m.rec ≡ r = one_value m.rec r (sym m.here ∙ ap (recs w) eq ∙ own) in rw (← same, ← eq) m.family)
+
+    new_makers : (q : ℕ) (t : Rec) → recs w q ≡ Some t → has_maker (show w p r s) q t ≡ true
+    new_makers q t e = by (family_of q t).1 refl
+      where
+        by : (off : ℕ) → (family_of q t).1 ≡ off → has_maker_at (show w p r s) t (family_of q t).0 (family_of q t).1 ≡ true
+        by zero f = rw f refl
+        by (suc i) f =
+            let h : has_maker_at w t (family_of q t).0 (suc i) ≡ true = rw f at (law.makers q t e) in
+            let m = made_to w (family_of q t).0 i t h in
+            let both : family_of q t ≡ ((family_of q t).0, suc i) = pair_of (family_of q t) i f in
+            rw f (made_from (show w p r s) (family_of q t).0 i t (record {
+              place = m.place; rec = m.rec; here = grown.records m.place m.rec m.here; pending = m.pending; family = m.family;
+              next = is_next_up w (show w p r s) (lawful_names law) grown m.place m.rec t m.here m.next;
+              taken = taken_still (family_of q t).0 i q t e both m;
+            }))
+          where
+            pair_of : (z : ℕ × ℕ) (i : ℕ) → z.1 ≡ suc i → z ≡ (z.0, suc i)
+            pair_of z i e = rw (← e) refl
+
+    -- the world is lawful, where a Done state is well done
+    pub lawful_state : is_pending r ≡ true → state_in_range s ≡ true → ((d : ℕ × ℕ) → kept s ≡ Some d → IsDoneWell w p r d) → IsLawful (show w p r s)
+    lawful_state pend range well =
+        let b = show w p r s in
+        let names = lawful_names law in
+        record {
+          fixed = fixed_up w b grown law.fixed;
+          each = λ q t e. laws_up w b names grown q t (before q t e) (law.each q t (before q t e));
+          origins = λ q t e. law.origins q t (before q t e);
+          one = λ q t e pend' q' t' e' pend'' same. law.one q t (before q t e) pend' q' t' (before q' t' e') pend'' same;
+          makers = λ q t e. new_makers q t (before q t e);
+          done = λ q t e d f. ⊎_elim
+              (λ eq. (let k = well d (sym (done-same w p r s inside) ∙ ap (done_at b) (sym eq) ∙ f) in
+                  let same : t ≡ r = one_value t r (sym (before q t e) ∙ ap (recs w) eq ∙ own) in
+                  rw (eq, same) (done_well_up w b names grown (done_there law) p r d own k)))
+              (λ ne. done_well_up w b names grown (done_there law) q t d (before q t e) (law.done q t (before q t e) d (sym (done-other w p r s inside q ne) ∙ f)))
+              (cases_eq q p);
+          states = λ q u e. ⊎_elim
+              (λ eq. (let z = one_value u s (sym e ∙ ap (state_at b) eq ∙ state-same w p r s inside) in rw z range))
+              (λ ne. law.states q u (sym (state-other w p r s inside q ne) ∙ e)) (cases_eq q p);
+          still = λ q t e no u f. ⊎_elim
+              (λ eq. (let same : t ≡ r = one_value t r (sym (before q t e) ∙ ap (recs w) eq ∙ own) in let z : true ≡ false = sym pend ∙ (rw same at no) in absurd (true≢false z)))
+              (λ ne. law.still q t (before q t e) no u (sym (state-other w p r s inside q ne) ∙ f)) (cases_eq q p);
         }
