@@ -1,0 +1,25 @@
+use Rattle.heap_store.proofs.plain.PlainHeapRows.store_row.Goals as goal
+
+pub overflow_sub-name : goal.overflow_sub-name
+overflow_sub-name c = ?
+
+pub index_mut-requires : goal.index_mut-requires
+index_mut-requires c = ?
+
+pub invariant_of-self : goal.invariant_of-self
+invariant_of-self c = ?
+
+pub invariant_of-self-then-word-eq5 : goal.invariant_of-self-then-word-eq5
+invariant_of-self-then-word-eq5 c = ?
+
+pub invariant_of-self-else-word-eq5 : goal.invariant_of-self-else-word-eq5
+invariant_of-self-else-word-eq5 c = ?
+
+pub returns-then-begins : goal.returns-then-begins
+returns-then-begins c = ?
+
+pub returns-then-word-eq5 : goal.returns-then-word-eq5
+returns-then-word-eq5 c = ?
+
+pub returns-else-word-eq5 : goal.returns-else-word-eq5
+returns-else-word-eq5 c = ?

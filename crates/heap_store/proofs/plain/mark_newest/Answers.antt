@@ -1,0 +1,4 @@
+use Rattle.heap_store.proofs.plain.mark_newest.Goals as goal
+
+pub returns-after-newest-clause-items : goal.returns-after-newest-clause-items
+returns-after-newest-clause-items c = ?
