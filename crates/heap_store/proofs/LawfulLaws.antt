@@ -1,29 +1,28 @@
 -- A world with one more record, or with another state of a suspension, is lawful.
-use Rattle.std.proofs.Common.{◌≡◌, ℕ, zero, suc, ◌<◌, ◌≤◌, refl, sym, ap, ◌∙◌, arith, subst, eqb, leb, ltb, Bool, true, false, not, ◌&&◌, ◌||◌, ◌⊎◌, inl, inr, ⊎_elim, Option, Some, None, List, [], ◌∷◌, length}
-use Rattle.std.specs.Prelude.{option_map, option_and_then, is_some, slice_index_or}
+use Rattle.std.proofs.Common.{◌≡◌, ℕ, zero, suc, ◌<◌, ◌≤◌, refl, sym, ap, ◌∙◌, arith, eqb, ltb, Bool, true, false, not, ◌||◌, ◌⊎◌, inl, inr, ⊎_elim, Option, Some, None, List, [], ◌∷◌, length}
+use Rattle.std.specs.Prelude.{option_map, option_and_then, slice_index_or}
 use Rattle.std.specs.List.{list_all}
 use Rattle.std.proofs.lemmas.Bool.{true≢false, cases_eq, and_parts, and_from, or_cases, or_left, or_right, eqb-true, eq-eqb}
 use Rattle.lazy_rec.specs.declared.records.Rec.{Rec}
 use Rattle.lazy_rec.specs.declared.records.Rec.TheVariants as recs_of
 use Rattle.lazy_rec.specs.declared.states.SuspState.{SuspState}
-use Rattle.lazy_rec.specs.declared.states.SuspState.TheVariants.{Unforced, Claimed, Done}
-use Rattle.lazy_rec.specs.Named.{Records, NamedPlace, named, at_record, is_pending}
-use Rattle.lazy_rec.specs.Meaning.{cells, means}
+use Rattle.lazy_rec.specs.declared.states.SuspState.TheVariants.{Unforced}
+use Rattle.lazy_rec.specs.Named.{Records, NamedPlace, named, is_pending}
 use Rattle.lazy_rec.specs.States.{kept, given_up, is_claimed, state_in_range}
 use Rattle.lazy_rec.specs.Tests.{is_some_and}
 use Rattle.lazy_rec.specs.Units.{family_of}
 use Rattle.heap_store.specs.declared.nodes.Node.{Node}
 use Rattle.heap_store.specs.declared.claims.HeldClaim.{HeldClaim}
-use Rattle.heap_store.specs.World.{World, recs, node_at, state_at, done_at, show, holds, some_record, some_below, is_taken, is_done, is_claimed_at}
+use Rattle.heap_store.specs.World.{World, recs, node_at, state_at, done_at, show, holds, some_below, is_taken, is_claimed_at}
 use Rattle.heap_store.specs.Growth.{Grows}
 use Rattle.heap_store.specs.Completion.{is_next}
-use Rattle.heap_store.specs.Lawful.{EachRecord, HasLaws, IsLawful, IsDoneWell, names_well, is_named_well, has_fixed, has_origin, has_maker, has_maker_at, is_maker, is_still}
+use Rattle.heap_store.specs.Lawful.{HasLaws, IsLawful, IsDoneWell, names_well, is_named_well, has_fixed, has_origin, has_maker, has_maker_at, is_maker}
 use Rattle.heap_store.specs.Hand.{Hand, IsLawfulHand, newest_makes, is_at_offset, has_no_next, is_claim_well}
-use Rattle.heap_store.proofs.NameLaws.{Adds, NamesWell, IsPublished}
-use Rattle.heap_store.proofs.GrowthLaws.{Up, and_up, same_up, at_true, holds_up, names_of, rec_there, state_there, done_up}
+use Rattle.heap_store.proofs.NameLaws.{NamesWell, IsPublished}
+use Rattle.heap_store.proofs.GrowthLaws.{Up, and_up, same_up, at_true, holds_up, names_of}
 use Rattle.heap_store.proofs.RecordLaws.{sizes_up, unmixed_up, banks_up, rts_up, heaps_up, cats_up, fingers_up, low_names_up, done_well_up}
 use Rattle.heap_store.proofs.MadeLaws.{is_next_up}
-use Rattle.heap_store.proofs.ShowLaws.{one_value, node-same, node-other, show_adds, state-same, state-other, done-same, done-other, put_grows, recs-show, recs-show-all, state_grows}
+use Rattle.heap_store.proofs.ShowLaws.{one_value, node-same, node-other, show_adds, state-same, state-other, done-same, done-other, put_grows, recs-show, state_grows}
 
 -- ---- searches over the records
 
@@ -135,8 +134,13 @@ made_from w origin off r m = some_from (length w.nodes) (recs w) (is_maker w ori
 
 made_up : (a b : World) → NamesWell (recs a) → Grows a b → ((m : ℕ) → Up (is_taken a m) (is_taken b m)) → (origin off : ℕ) (r : Rec) → Made a origin off r → Made b origin off r
 made_up a b names x up origin off r m = record {
-  place = m.place; rec = m.rec; here = x.records m.place m.rec m.here; pending = m.pending; family = m.family;
-  next = is_next_up a b names x m.place m.rec r m.here m.next; taken = up m.place m.taken;
+  place = m.place;
+  rec = m.rec;
+  here = x.records m.place m.rec m.here;
+  pending = m.pending;
+  family = m.family;
+  next = is_next_up a b names x m.place m.rec r m.here m.next;
+  taken = up m.place m.taken;
 }
 
 maker_up : (a b : World) → NamesWell (recs a) → Grows a b → ((m : ℕ) → Up (is_taken a m) (is_taken b m)) → (r : Rec) (origin off : ℕ) → Up (has_maker_at a r origin off) (has_maker_at b r origin off)
@@ -178,7 +182,7 @@ ahead_of w h hand origin i r = by h.claims hand.claims
 none_next : (w : World) (s : ℕ) (r : Rec) → has_no_next w s r ≡ true → (q : ℕ) (t : Rec) → recs w q ≡ Some t → is_pending t ≡ true → family_of q t ≡ ((family_of s r).0, suc (family_of s r).1) → ⊥
 none_next w s r none q t e pend same =
     let found = some_from (length w.nodes) (recs w) (is_at_offset (family_of s r).0 (suc (family_of s r).1)) q t (within w q t e) e
-        (and_from _ _ (and_from _ _ pend (eq-eqb _ _ (ap (λ (f : ℕ × ℕ). f.0) same))) (eq-eqb _ _ (ap (λ (f : ℕ × ℕ). f.1) same))) in
+    (and_from _ _ (and_from _ _ pend (eq-eqb _ _ (ap (λ (f : ℕ × ℕ). f.0) same))) (eq-eqb _ _ (ap (λ (f : ℕ × ℕ). f.1) same))) in
     let z : false ≡ true = sym (ap not found) ∙ none in absurd (true≢false (sym z))
 
 -- a place that shows this is claimed or done
@@ -276,9 +280,9 @@ module _ (w : World) (p : ℕ) (r : Rec) (old s : SuspState) (inside : p < lengt
     unfolding taken_of
     taken_still origin i q t e f m = ⊎_elim
         (λ eq. ⊎_elim
-          (λ k. ap (is_taken (show w p r s)) eq ∙ (ap taken_of (node-same w p r s inside) ∙ k))
-          (λ none. absurd (none_next w p r none q t e (offset_pending q t i (ap (λ (z : ℕ × ℕ). z.1) f)) (f ∙ ap (λ (z : ℕ × ℕ). (z.0, suc z.1)) (sym (family_here eq)))))
-          stays)
+        (λ k. ap (is_taken (show w p r s)) eq ∙ (ap taken_of (node-same w p r s inside) ∙ k))
+        (λ none. absurd (none_next w p r none q t e (offset_pending q t i (ap (λ (z : ℕ × ℕ). z.1) f)) (f ∙ ap (λ (z : ℕ × ℕ). (z.0, suc z.1)) (sym (family_here eq)))))
+        stays)
         (λ ne. ap (taken_of) (node-other w p r s inside m.place ne) ∙ m.taken)
         (cases_eq m.place p)
       where
@@ -295,7 +299,11 @@ module _ (w : World) (p : ℕ) (r : Rec) (old s : SuspState) (inside : p < lengt
             let m = made_to w (family_of q t).0 i t h in
             let both : family_of q t ≡ ((family_of q t).0, suc i) = pair_of (family_of q t) i f in
             rw f (made_from (show w p r s) (family_of q t).0 i t (record {
-              place = m.place; rec = m.rec; here = grown.records m.place m.rec m.here; pending = m.pending; family = m.family;
+              place = m.place;
+              rec = m.rec;
+              here = grown.records m.place m.rec m.here;
+              pending = m.pending;
+              family = m.family;
               next = is_next_up w (show w p r s) (lawful_names law) grown m.place m.rec t m.here m.next;
               taken = taken_still (family_of q t).0 i q t e both m;
             }))
@@ -316,8 +324,8 @@ module _ (w : World) (p : ℕ) (r : Rec) (old s : SuspState) (inside : p < lengt
           makers = λ q t e. new_makers q t (before q t e);
           done = λ q t e d f. ⊎_elim
               (λ eq. (let k = well d (sym (done-same w p r s inside) ∙ ap (done_at b) (sym eq) ∙ f) in
-                  let same : t ≡ r = one_value t r (sym (before q t e) ∙ ap (recs w) eq ∙ own) in
-                  rw (eq, same) (done_well_up w b names grown (done_there law) p r d own k)))
+              let same : t ≡ r = one_value t r (sym (before q t e) ∙ ap (recs w) eq ∙ own) in
+              rw (eq, same) (done_well_up w b names grown (done_there law) p r d own k)))
               (λ ne. done_well_up w b names grown (done_there law) q t d (before q t e) (law.done q t (before q t e) d (sym (done-other w p r s inside q ne) ∙ f)))
               (cases_eq q p);
           states = λ q u e. ⊎_elim

@@ -9,3 +9,4 @@ pub mod RecordLaws
 pub mod Steps
 pub mod ShowLaws
 pub mod LawfulLaws
+pub mod RowLaws

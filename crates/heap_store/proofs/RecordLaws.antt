@@ -3,7 +3,7 @@ use Rattle.std.proofs.Common.{◌≡◌, ℕ, zero, suc, ◌<◌, ◌+◌, ◌*�
 use Rattle.std.specs.Prelude.{option_and_then, is_some}
 use Rattle.std.specs.List.{AllByRecursion, list_all}
 use Rattle.std.proofs.lemmas.Bool.{true≢false, and_parts, or_cases}
-use Rattle.std.proofs.Common.{inl, inr, ◌⊎◌, not, cond, ◌++◌, ◌||◌}
+use Rattle.std.proofs.Common.{inl, inr, ◌⊎◌, not, cond, ◌++◌}
 use Rattle.std.specs.Prelude.{option_map}
 use Rattle.lazy_rec.specs.States.{kept}
 use Rattle.lazy_rec.specs.Tests.{is_some_and}
@@ -20,7 +20,7 @@ use Rattle.lazy_rec.specs.Meaning.{Entry, an_item, a_child, cells, means}
 use Rattle.heap_store.specs.Forest.{is_tree_list}
 use Rattle.heap_store.specs.World.{World, recs, holds, value_at, Keeps}
 use Rattle.heap_store.specs.Completion.{on_queue}
-use Rattle.heap_store.specs.Lawful.{has_sizes, stream_of, is_stream, bank_front_of, is_bank_front, rt_front_of, is_rt_front, is_child, has_children, is_unmixed, is_rotated, is_bank_queue, is_bank_origin, same_entries, walk, rest_of, is_rt_queue, insert_steps_of, insert_steps, is_heap_list, is_heap, is_queue_of_children, is_cat, if_any, level_from, level, level_of, is_of_level, is_finger, has_keys_at, has_keys, keeps_keys, IsDoneWell, cell_places, first_children, link_needs, kids_of, needs, height, height_of, greatest, has_low_names, may_wait, is_any_rt_rotation, keeps_each_kind}
+use Rattle.heap_store.specs.Lawful.{has_sizes, stream_of, is_stream, bank_front_of, is_bank_front, rt_front_of, is_rt_front, is_child, has_children, is_unmixed, is_rotated, is_bank_queue, is_bank_origin, same_entries, walk, rest_of, is_rt_queue, insert_steps_of, insert_steps, is_heap_list, is_heap, is_queue_of_children, is_cat, if_any, level_from, level, level_of, is_of_level, is_finger, has_keys_at, has_keys, keeps_keys, IsDoneWell, cell_places, first_children, link_needs, kids_of, needs, height, height_of, greatest, has_low_names, may_wait}
 use Rattle.lazy_rec.specs.Units.{family_of}
 use Rattle.heap_store.proofs.ByPlaceLaws.{by_place_agree}
 use Rattle.heap_store.proofs.Alls.{All-map}

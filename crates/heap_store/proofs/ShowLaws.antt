@@ -1,27 +1,16 @@
 -- What publishing a record and changing a state keep.
-use Rattle.std.proofs.Common.{◌≡◌, ℕ, zero, suc, ◌<◌, ◌≤◌, refl, sym, ap, ◌∙◌, arith, eqb, leb, ltb, Bool, true, false, not, ◌&&◌, ◌||◌, ⊎_elim, Option, Some, None, List, [], ◌∷◌, length, subst}
-use Rattle.std.specs.Prelude.{option_map, option_and_then, is_some, slice_set, slice_index_or}
-use Rattle.std.specs.List.{list_all}
+use Rattle.std.proofs.Common.{◌≡◌, ℕ, ◌<◌, ◌≤◌, sym, ap, ◌∙◌, arith, true, false, ⊎_elim, Option, Some, None, length}
+use Rattle.std.specs.Prelude.{option_map, option_and_then, is_some}
 use Rattle.std.proofs.lemmas.List.{get_or-set_same, get_or-set_other}
-use Rattle.std.proofs.lemmas.Bool.{true≢false, cases_eq, and_parts, and_from, or_cases, or_left, or_right, eqb-true, eq-eqb}
+use Rattle.std.proofs.lemmas.Bool.{cases_eq}
 use mathlib.Core.Path.{fun_ext}
 use Rattle.lazy_rec.specs.declared.records.Rec.{Rec}
 use Rattle.lazy_rec.specs.declared.states.SuspState.{SuspState}
-use Rattle.lazy_rec.specs.declared.states.SuspState.TheVariants.{Unforced, Claimed, Done}
-use Rattle.lazy_rec.specs.Named.{NamedPlace, named, at_record, is_pending}
-use Rattle.lazy_rec.specs.Meaning.{cells, means}
-use Rattle.lazy_rec.specs.States.{kept, given_up, is_claimed, state_in_range}
-use Rattle.lazy_rec.specs.Tests.{is_some_and}
-use Rattle.lazy_rec.specs.Units.{family_of}
+use Rattle.lazy_rec.specs.States.{kept, given_up}
 use Rattle.heap_store.specs.declared.nodes.Node.{Node}
-use Rattle.heap_store.specs.World.{World, recs, node_at, state_at, done_at, show, holds, some_record, some_below, is_taken, is_done, is_claimed_at}
+use Rattle.heap_store.specs.World.{World, recs, node_at, state_at, done_at, show}
 use Rattle.heap_store.specs.Growth.{Grows}
-use Rattle.heap_store.specs.Completion.{is_next}
-use Rattle.heap_store.specs.Lawful.{EachRecord, HasLaws, IsLawful, IsDoneWell, names_well, is_named_well, has_fixed, has_origin, has_maker, has_maker_at, is_maker, is_still}
-use Rattle.heap_store.proofs.NameLaws.{Adds, NamesWell, IsPublished}
-use Rattle.heap_store.proofs.GrowthLaws.{Up, and_up, same_up, at_true, holds_up, names_of, rec_there, state_there}
-use Rattle.heap_store.proofs.RecordLaws.{sizes_up, unmixed_up, banks_up, rts_up, heaps_up, cats_up, fingers_up, low_names_up, done_well_up}
-use Rattle.heap_store.proofs.MadeLaws.{is_next_up}
+use Rattle.heap_store.proofs.NameLaws.{Adds}
 
 state_given : Option Node → ℕ
 state_given None = 0

@@ -1,5 +1,5 @@
 -- How the steps of a heap compose.
-use Rattle.std.proofs.Common.{◌≡◌, ℕ, zero, suc, ◌+◌, ◌<◌, ◌≤◌, Bool, true, false, List, [], ◌∷◌, ◌++◌, refl, sym, ap, ◌∙◌, arith, Some, map, drop, cond, not, ◌&&◌, ◌||◌, subst}
+use Rattle.std.proofs.Common.{◌≡◌, ℕ, zero, suc, ◌+◌, ◌≤◌, Bool, true, List, [], ◌∷◌, refl, sym, ap, ◌∙◌, arith, Some, drop, not, ◌&&◌}
 use Rattle.std.specs.Prelude.{filter, count_by, leb, ltb, slice_set, Option}
 use Rattle.std.proofs.lemmas.Grind.{common_steps}
 use Rattle.lazy_rec.specs.declared.records.Rec.{Rec}
@@ -7,9 +7,8 @@ use Rattle.lazy_rec.specs.declared.states.SuspState.TheVariants.{Unforced}
 use Rattle.heap_store.specs.declared.nodes.Node.{Node}
 use Rattle.heap_store.specs.declared.claims.HeldClaim.{HeldClaim}
 use Rattle.heap_store.specs.Span.{Span}
-use Rattle.heap_store.specs.World.{World, recs, show}
-use Rattle.heap_store.specs.Growth.{Grows}
-use Rattle.heap_store.specs.Hand.{Hand, IsInHand, contains, without, places_from, claim_places, mark_newest, hand_put, is_later}
+use Rattle.heap_store.specs.World.{World, show}
+use Rattle.heap_store.specs.Hand.{Hand, IsInHand, contains, without, claim_places, mark_newest, hand_put, is_later}
 use Rattle.heap_store.specs.View.{View, About, Quiet, SameRows, Put, unforced, is_unforced_node}
 use Rattle.heap_store.specs.Jobs.{Filled}
 use Rattle.heap_store.proofs.GrowthLaws.{grows_refl, grows_trans}
