@@ -10,3 +10,5 @@ pub mod Steps
 pub mod ShowLaws
 pub mod LawfulLaws
 pub mod RowLaws
+pub mod PlainLists
+pub mod PlainWorlds

@@ -3,11 +3,12 @@ use Rattle.std.proofs.Common.{◌≡◌, ◌≢◌, ℕ, zero, suc, ◌+◌, ◌
 use Rattle.std.specs.Prelude.{filter, count_by, slice_set, slice_index_or}
 use Rattle.std.specs.List.{list_all, list_any}
 use Rattle.std.proofs.lemmas.Grind.{common_steps}
-use Rattle.std.proofs.lemmas.Bool.{cases_eq, cases_lt, true≢false}
-use Rattle.std.proofs.lemmas.List.{get_or_append_left, get_or-append_right, get_or_past, get_or-replicate, set-append_left, length-append, length-replicate, length-set, replicate-append-replicate, append_assoc, reverse-append}
+use Rattle.std.proofs.lemmas.Bool.{cases_eq, cases_lt, true≢false, or_left, or_right, eq-eqb}
+use Rattle.std.proofs.lemmas.List.{get_or_append_left, get_or-append_right, get_or_past, get_or-replicate, set-append_left, length-append, length-replicate, length-set, replicate-append-replicate, append_assoc, reverse-append, length-reverse}
+use Rattle.std.proofs.Math.Seq.{get_or-append_seam}
 use Rattle.heap_store.specs.declared.nodes.Node.{Node}
 use Rattle.heap_store.specs.declared.claims.HeldClaim.{HeldClaim}
-use Rattle.heap_store.specs.Hand.{contains, all_distinct, places_from, without, claim_places, without_claim}
+use Rattle.heap_store.specs.Hand.{contains, all_distinct, places_from, without, claim_places, without_claim, mark_newest}
 use Rattle.heap_store.specs.Rows.{row_of}
 use Rattle.heap_store.specs.View.{is_there}
 use Rattle.heap_store.specs.Plain.{filled_up, no_words, free_places, open_names, is_ended_row}
@@ -106,21 +107,32 @@ pub record IsFree (p q : ℕ) (xs : List (Option Node)) : Type 0 where
 more_free : (p q : ℕ) (x : Option Node) (xs : List (Option Node)) → IsFree (suc p) q xs → IsFree p q (x ∷ xs)
 more_free p q x xs f = record { at = suc f.at; here = omega (arith, f.here); within = omega (arith, f.within); none = f.none }
 
+contains-tail : (x q : ℕ) (xs : List ℕ) → x ≢ q → contains (x ∷ xs) q ≡ true → contains xs q ≡ true
+contains-tail x q xs ne h = grind (arith, common_steps, ne, h)
+
+contains-cons : (x q : ℕ) (xs : List ℕ) → contains xs q ≡ true → contains (x ∷ xs) q ≡ true
+contains-cons x q xs h = or_right (eqb x q) (contains xs q) h
+
+contains-head : (x q : ℕ) (xs : List ℕ) → x ≡ q → contains (x ∷ xs) q ≡ true
+contains-head x q xs e = or_left (eqb x q) (contains xs q) (eq-eqb x q e)
+
 pub free_to : (p q : ℕ) (xs : List (Option Node)) → contains (free_places p xs) q ≡ true → IsFree p q xs
 free_to p q [] h = absurd (true≢false (sym h))
-free_to p q (None ∷ xs) h = by (eqb p q) refl h
-  where
-    by : (b : Bool) → eqb p q ≡ b → (b || contains (free_places (suc p) xs) q) ≡ true → IsFree p q (None ∷ xs)
-    by true e k = let same : p ≡ q = grind (arith, common_steps, e) in record { at = 0; here = omega arith; within = omega arith; none = refl }
-    by false e k = more_free p q None xs (free_to (suc p) q xs k)
+free_to p q (None ∷ xs) h = ⊎_elim
+    (λ same. record { at = 0; here = omega arith; within = omega arith; none = refl })
+    (λ ne. more_free p q None xs (free_to (suc p) q xs (contains-tail p q (free_places (suc p) xs) ne h))) (cases_eq p q)
 free_to p q (Some n ∷ xs) h = more_free p q (Some n) xs (free_to (suc p) q xs h)
 
 pub free_from : (p j : ℕ) (xs : List (Option Node)) → j < length xs → slice_index_or xs j None ≡ None → contains (free_places p xs) (p + j) ≡ true
 free_from p j [] l h = absurd (omega arith)
-free_from p zero (None ∷ xs) l h = grind (arith, common_steps)
+free_from p zero (None ∷ xs) l h = contains-head p (p + 0) (free_places (suc p) xs) (omega arith)
 free_from p zero (Some n ∷ xs) l h = cc
-free_from p (suc j) (None ∷ xs) l h = let e : p + suc j ≡ suc p + j = omega arith in let ih = free_from (suc p) j xs (omega arith) h in rw e (grind (arith, common_steps, ih))
-free_from p (suc j) (Some n ∷ xs) l h = let e : p + suc j ≡ suc p + j = omega arith in rw e (free_from (suc p) j xs (omega arith) h)
+free_from p (suc j) (None ∷ xs) l h =
+    let e : p + suc j ≡ suc p + j = omega arith in
+    subst (λ z. contains (p ∷ free_places (suc p) xs) z ≡ true) (sym e) (contains-cons p (suc p + j) (free_places (suc p) xs) (free_from (suc p) j xs (omega arith) h))
+free_from p (suc j) (Some n ∷ xs) l h =
+    let e : p + suc j ≡ suc p + j = omega arith in
+    subst (λ z. contains (free_places (suc p) xs) z ≡ true) (sym e) (free_from (suc p) j xs (omega arith) h)
 
 free-low : (p q : ℕ) (xs : List (Option Node)) → q < p → contains (free_places p xs) q ≡ false
 free-low p q xs l = by (contains (free_places p xs) q) refl
@@ -151,12 +163,17 @@ without-drops s xs = grind (arith, common_steps)
 
 pub free-filled : (p j : ℕ) (xs : List (Option Node)) (n : Node) → j < length xs → slice_index_or xs j None ≡ None → free_places p (slice_set xs j (Some n)) ≡ without (p + j) (p + j + 1) (free_places p xs)
 free-filled p j [] n l h = absurd (omega arith)
-free-filled p zero (None ∷ xs) n l h = let e : p + 0 ≡ p = omega arith in rw e (sym (without-drops p (free_places (suc p) xs) ∙ without-absent p (free_places (suc p) xs) (free-low (suc p) p xs (omega arith))))
+free-filled p zero (None ∷ xs) n l h =
+    let e : p + 0 ≡ p = omega arith in
+    subst (λ z. free_places (suc p) xs ≡ without z (z + 1) (p ∷ free_places (suc p) xs)) (sym e) (sym (without-drops p (free_places (suc p) xs) ∙ without-absent p (free_places (suc p) xs) (free-low (suc p) p xs (omega arith))))
 free-filled p zero (Some m ∷ xs) n l h = cc
 free-filled p (suc j) (None ∷ xs) n l h =
     let e : p + suc j ≡ suc p + j = omega arith in
-    rw (e, without-keeps (suc p + j) p (free_places (suc p) xs) (omega arith)) (ap (λ z. p ∷ z) (free-filled (suc p) j xs n (omega arith) h))
-free-filled p (suc j) (Some m ∷ xs) n l h = let e : p + suc j ≡ suc p + j = omega arith in rw e (free-filled (suc p) j xs n (omega arith) h)
+    subst (λ z. p ∷ free_places (suc p) (slice_set xs j (Some n)) ≡ without z (z + 1) (p ∷ free_places (suc p) xs)) (sym e)
+      (ap (λ z. p ∷ z) (free-filled (suc p) j xs n (omega arith) h) ∙ sym (without-keeps (suc p + j) p (free_places (suc p) xs) (omega arith)))
+free-filled p (suc j) (Some m ∷ xs) n l h =
+    let e : p + suc j ≡ suc p + j = omega arith in
+    subst (λ z. free_places (suc p) (slice_set xs j (Some n)) ≡ without z (z + 1) (free_places (suc p) xs)) (sym e) (free-filled (suc p) j xs n (omega arith) h)
 
 pub free-same : (p j : ℕ) (xs : List (Option Node)) (m n : Node) → slice_index_or xs j None ≡ Some m → free_places p (slice_set xs j (Some n)) ≡ free_places p xs
 free-same p j [] m n h = refl
@@ -177,32 +194,34 @@ pub record IsOpen (i q : ℕ) (rows : List (List ℕ)) : Type 0 where
 more_open : (i q : ℕ) (words : List ℕ) (rows : List (List ℕ)) → IsOpen (suc i) q rows → IsOpen i q (words ∷ rows)
 more_open i q words rows f = record { at = suc f.at; here = omega (arith, f.here); within = omega (arith, f.within); open_yet = f.open_yet }
 
+first_open : (i q : ℕ) (words : List ℕ) (rows : List (List ℕ)) → (contains (open_names (suc i) rows) q ≡ true → IsOpen (suc i) q rows) → (b : Bool) → is_ended_row (row_of i words) ≡ b → contains (cond b (open_names (suc i) rows) (i ∷ open_names (suc i) rows)) q ≡ true → IsOpen i q (words ∷ rows)
+first_open i q words rows ih true e h = more_open i q words rows (ih h)
+first_open i q words rows ih false e h = ⊎_elim
+    (λ same. record { at = 0; here = omega arith; within = omega arith; open_yet = subst (λ z. is_ended_row (row_of z words) ≡ false) same e })
+    (λ ne. more_open i q words rows (ih (contains-tail i q (open_names (suc i) rows) ne h))) (cases_eq i q)
+
 pub open_to : (i q : ℕ) (rows : List (List ℕ)) → contains (open_names i rows) q ≡ true → IsOpen i q rows
 open_to i q [] h = absurd (true≢false (sym h))
-open_to i q (words ∷ rows) h = by (is_ended_row (row_of i words)) refl h
-  where
-    here_or : (b : Bool) → is_ended_row (row_of i words) ≡ false → eqb i q ≡ b → (b || contains (open_names (suc i) rows) q) ≡ true → IsOpen i q (words ∷ rows)
-    here_or true e f k = let same : i ≡ q = grind (arith, common_steps, f) in record { at = 0; here = omega arith; within = omega arith; open_yet = subst (λ z. is_ended_row (row_of z words) ≡ false) same e }
-    here_or false e f k = more_open i q words rows (open_to (suc i) q rows k)
-
-    by : (b : Bool) → is_ended_row (row_of i words) ≡ b → contains (cond b (open_names (suc i) rows) (i ∷ open_names (suc i) rows)) q ≡ true → IsOpen i q (words ∷ rows)
-    by true e k = more_open i q words rows (open_to (suc i) q rows k)
-    by false e k = here_or (eqb i q) e refl k
+open_to i q (words ∷ rows) h = first_open i q words rows (open_to (suc i) q rows) (is_ended_row (row_of i words)) refl h
 
 contains-more : (b : Bool) (x q : ℕ) (xs : List ℕ) → contains xs q ≡ true → contains (cond b xs (x ∷ xs)) q ≡ true
 contains-more true x q xs h = h
-contains-more false x q xs h = grind (arith, common_steps, h)
+contains-more false x q xs h = contains-cons x q xs h
+
+contains-first : (b : Bool) (x q : ℕ) (xs : List ℕ) → b ≡ false → x ≡ q → contains (cond b xs (x ∷ xs)) q ≡ true
+contains-first true x q xs h e = cc
+contains-first false x q xs h e = contains-head x q xs e
 
 pub open_from : (i j : ℕ) (rows : List (List ℕ)) → j < length rows → is_ended_row (row_of (i + j) (slice_index_or rows j [])) ≡ false → contains (open_names i rows) (i + j) ≡ true
 open_from i j [] l h = absurd (omega arith)
 open_from i zero (words ∷ rows) l h =
     let e : i + 0 ≡ i = omega arith in
     let h' : is_ended_row (row_of i words) ≡ false = subst (λ z. is_ended_row (row_of z words) ≡ false) e h in
-    rw (e, h') (grind (arith, common_steps))
+    contains-first (is_ended_row (row_of i words)) i (i + 0) (open_names (suc i) rows) h' (omega arith)
 open_from i (suc j) (words ∷ rows) l h =
     let e : i + suc j ≡ suc i + j = omega arith in
     let h' = subst (λ z. is_ended_row (row_of z (slice_index_or rows j [])) ≡ false) e h in
-    rw e (contains-more (is_ended_row (row_of i words)) i (suc i + j) (open_names (suc i) rows) (open_from (suc i) j rows (omega arith) h'))
+    subst (λ z. contains (open_names i (words ∷ rows)) z ≡ true) (sym e) (contains-more (is_ended_row (row_of i words)) i (suc i + j) (open_names (suc i) rows) (open_from (suc i) j rows (omega arith) h'))
 
 open-low : (i q : ℕ) (rows : List (List ℕ)) → q < i → contains (open_names i rows) q ≡ false
 open-low i q rows l = by (contains (open_names i rows) q) refl
@@ -253,11 +272,14 @@ open-ended i j [] words l h = absurd (omega arith)
 open-ended i zero (before ∷ rows) words l h =
     let e : i + 0 ≡ i = omega arith in
     let h' : is_ended_row (row_of i words) ≡ true = subst (λ z. is_ended_row (row_of z words) ≡ true) e h in
-    rw (e, h') (drop-first (is_ended_row (row_of i before)) i (open_names (suc i) rows) (open-low (suc i) i rows (omega arith)))
+    let k : open_names i (words ∷ rows) ≡ open_names (suc i) rows = ap (λ b. cond b (open_names (suc i) rows) (i ∷ open_names (suc i) rows)) h' in
+    subst (λ z. open_names i (words ∷ rows) ≡ without z (z + 1) (open_names i (before ∷ rows))) (sym e)
+      (k ∙ drop-first (is_ended_row (row_of i before)) i (open_names (suc i) rows) (open-low (suc i) i rows (omega arith)))
 open-ended i (suc j) (before ∷ rows) words l h =
     let e : i + suc j ≡ suc i + j = omega arith in
     let h' = subst (λ z. is_ended_row (row_of z words) ≡ true) e h in
-    rw e (cond-without (is_ended_row (row_of i before)) (suc i + j) i (open_names (suc i) rows) _ (omega arith) (open-ended (suc i) j rows words (omega arith) h'))
+    subst (λ z. open_names i (before ∷ slice_set rows j words) ≡ without z (z + 1) (open_names i (before ∷ rows))) (sym e)
+      (cond-without (is_ended_row (row_of i before)) (suc i + j) i (open_names (suc i) rows) (open_names (suc i) (slice_set rows j words)) (omega arith) (open-ended (suc i) j rows words (omega arith) h'))
 
 -- ---- the claims from the newest on
 
@@ -279,3 +301,29 @@ filter-reverse t (x ∷ xs) = ap (filter t) (reverse-cons x xs) ∙ (filter-appe
         append_nil : {Y : Type 0} (ys : List Y) → ys ++ [] ≡ ys
         append_nil [] = refl
         append_nil (y ∷ ys) = ap (λ z. y ∷ z) (append_nil ys)
+
+-- the newest claim taken off
+pub reverse-popped : (s i : ℕ) (xs ys : List HeldClaim) (p c : HeldClaim) → xs ≡ ys ++ p ∷ [] → c ≡ slice_index_or xs i c → i ≡ length ys → c.place.0 ≡ s → all_distinct (claim_places (reverse xs)) ≡ true → reverse ys ≡ without_claim s (reverse xs)
+reverse-popped s i xs ys p c e f j k d =
+    let a : reverse xs ≡ p ∷ reverse ys = ap reverse e ∙ reverse-append ys (p ∷ []) in
+    let b : c ≡ p = f ∙ (rw (e, j) (get_or-append_seam ys p [] c)) in
+    let here : p.place.0 ≡ s = ap (λ (t : HeldClaim). t.place.0) (sym b) ∙ k in
+    let d' : all_distinct (p.place.0 ∷ claim_places (reverse ys)) ≡ true = subst (λ l. all_distinct (claim_places l) ≡ true) a d in
+    rw a (first_off s p (reverse ys) here d')
+  where
+    first_off : (s : ℕ) (p : HeldClaim) (cs : List HeldClaim) → p.place.0 ≡ s → all_distinct (p.place.0 ∷ claim_places cs) ≡ true → cs ≡ without_claim s (p ∷ cs)
+    first_off s p cs here d = let k = without_claim-absent s cs in grind (arith, common_steps, here, d, k)
+
+-- the newest claim marked
+mark-append : (b : Bool) (ys zs : List HeldClaim) → 0 < length ys → mark_newest b (ys ++ zs) ≡ mark_newest b ys ++ zs
+mark-append b [] zs l = absurd (omega arith)
+mark-append b (y ∷ ys) zs l = refl
+
+pub reverse-marked : (later : Bool) (i : ℕ) (xs : List HeldClaim) (c d : HeldClaim) → length xs ≡ i + 1 → c ≡ slice_index_or xs i d → reverse (slice_set xs i (record { place = c.place; built = true; passed = c.passed || later })) ≡ mark_newest later (reverse xs)
+reverse-marked later i [] c d l e = absurd (omega arith)
+reverse-marked later zero (x ∷ []) c d l e = rw e refl
+reverse-marked later zero (x ∷ y ∷ xs) c d l e = absurd (omega arith)
+reverse-marked later (suc i) (x ∷ xs) c d l e =
+    let ih = reverse-marked later i xs c d (omega arith) e in
+    let v : HeldClaim = record { place = c.place; built = true; passed = c.passed || later } in
+    reverse-cons x (slice_set xs i v) ∙ (ap (λ z. z ++ x ∷ []) ih ∙ (sym (mark-append later (reverse xs) (x ∷ []) (rw length-reverse (omega arith))) ∙ ap (mark_newest later) (sym (reverse-cons x xs))))

@@ -16,4 +16,4 @@ pub mod Shared
 pub mod Plain
 pub mod Props
 pub mod Opened
-pub mod Facts
+pub mod PlainLaw

@@ -1,6 +1,6 @@
 -- What the fields of the store of one thread mean. It takes its room when it is opened, and fills it as places and names are
 -- drawn: a place that no reserve has given yet shows nothing, and a row whose name isn't drawn shows zeros.
-use Rattle.std.specs.Prelude.{◌≡◌, ℕ, suc, ◌+◌, ◌-◌, ◌≤◌, ◌∷◌, [], ◌++◌, replicate, eqb, Bool, true, false, not, ◌||◌, cond, Option, Some, None, List, length, count_by, is_some}
+use Rattle.std.specs.Prelude.{◌≡◌, ℕ, suc, ◌+◌, ◌-◌, ◌<◌, ◌≤◌, ◌∷◌, [], ◌++◌, replicate, eqb, Bool, true, false, not, ◌||◌, cond, Option, Some, None, List, length, count_by, is_some}
 use Rattle.std.specs.List.{list_all}
 use Rattle.lazy_rec.specs.declared.records.Rec.{Rec}
 use Rattle.lazy_rec.specs.declared.records.Rec.TheVariants.{Nil, LNil, TNil, CatNil, TEmpty}
@@ -12,7 +12,7 @@ use Rattle.heap_store.specs.declared.claims.HeldClaim.{HeldClaim}
 use Rattle.heap_store.specs.declared.claims.OpenRow.{OpenRow}
 use Rattle.heap_store.specs.declared.claims.Full.{Full}
 use Rattle.heap_store.specs.World.{World, is_claimed_at, fixed_places}
-use Rattle.heap_store.specs.Rows.{Row, row_of, row_at, word_at, is_ended, is_ended_at, version_of_word}
+use Rattle.heap_store.specs.Rows.{Row, row_of, row_at, words_at, word_at, is_ended, is_ended_at, version_of_word}
 use Rattle.heap_store.specs.Legal.{IsLegal}
 use Rattle.heap_store.specs.Lawful.{IsLawful}
 use Rattle.heap_store.specs.LookedAt.{HasRoots}
@@ -94,20 +94,25 @@ plain_view nodes claims rows open_row capacity row_capacity refused last = recor
 abbrev pub is_marked_well : HeldClaim → Bool
 is_marked_well c = implies c.passed c.built
 
+-- a world of one thread, and the claims on it
+pub record IsSeenWell (w : World) (claims : List HeldClaim) : Type 0 where
+  pub lawful : IsLawful w
+  pub legal : IsLegal w
+  pub roots : HasRoots w
+  pub well : list_all (is_claim_well w) claims ≡ true
+  -- the claims are the claimed places
+  pub held : (s : ℕ) → contains (claim_places claims) s ≡ is_claimed_at w s
+  -- each row has six words; word 3 tells a version, and word 5 is 0 until the row is ended
+  pub wide : (k : ℕ) → k < length w.rows → length (words_at w (suc k)) ≡ 6
+  pub versions : (i : ℕ) → is_some (version_of_word 0 (word_at w i 3)) ≡ true
+  pub unended : (i : ℕ) → is_ended_at (row_at w) i ≡ false → word_at w i 5 ≡ 0
+
 pub record IsPlain (capacity row_capacity : ℕ) (nodes : List (Option Node)) (claims : List HeldClaim) (rows : List (List ℕ)) : Type 0 where
-  pub lawful : IsLawful (plain_world capacity row_capacity nodes rows)
-  pub legal : IsLegal (plain_world capacity row_capacity nodes rows)
-  pub roots : HasRoots (plain_world capacity row_capacity nodes rows)
-  pub well : list_all (is_claim_well (plain_world capacity row_capacity nodes rows)) claims ≡ true
+  pub seen : IsSeenWell (plain_world capacity row_capacity nodes rows) claims
   pub marked : list_all is_marked_well claims ≡ true
-  -- the claims are the claimed places, each once
-  pub held : (s : ℕ) → contains (claim_places claims) s ≡ is_claimed_at (plain_world capacity row_capacity nodes rows) s
   pub once : all_distinct (claim_places claims) ≡ true
   pub many : length claims ≡ count_by is_claimed_node nodes
   pub fits : length nodes ≤ fixed_places + capacity
   pub small : capacity ≤ 4000000
   pub rows_fit : length rows ≤ row_capacity
   pub rows_small : row_capacity ≤ 200000
-  -- word 3 of each row tells a version, and word 5 is 0 until the row is ended
-  pub versions : (i : ℕ) → is_some (version_of_word 0 (word_at (plain_world capacity row_capacity nodes rows) i 3)) ≡ true
-  pub unended : (i : ℕ) → is_ended_at (plain_world capacity row_capacity nodes rows) i ≡ false → word_at (plain_world capacity row_capacity nodes rows) i 5 ≡ 0

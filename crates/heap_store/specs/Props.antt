@@ -13,7 +13,7 @@ use Rattle.heap_store.specs.World.{World}
 use Rattle.heap_store.specs.Legal.{IsLegal}
 use Rattle.heap_store.specs.Lawful.{HasLaws, IsDoneWell, IsLawful}
 use Rattle.heap_store.specs.LookedAt.{HasRoots}
-use Rattle.heap_store.specs.Plain.{IsPlain}
+use Rattle.heap_store.specs.Plain.{IsSeenWell, IsPlain}
 
 Kind-set : IsSet Kind
 Kind-set = hlevel (⊎_set, props)
@@ -39,5 +39,8 @@ IsLawful-prop w = hlevel (Entry-set, props)
 pub HasRoots-prop : (w : World) → IsProp (HasRoots w)
 HasRoots-prop w = hlevel props
 
+IsSeenWell-prop : (w : World) (claims : List HeldClaim) → IsProp (IsSeenWell w claims)
+IsSeenWell-prop w claims = hlevel (IsLawful-prop, IsLegal-prop, HasRoots-prop, props)
+
 pub IsPlain-prop : (capacity row_capacity : ℕ) (nodes : List (Option Node)) (claims : List HeldClaim) (rows : List (List ℕ)) → IsProp (IsPlain capacity row_capacity nodes claims rows)
-IsPlain-prop capacity row_capacity nodes claims rows = hlevel (IsLawful-prop, IsLegal-prop, HasRoots-prop, props)
+IsPlain-prop capacity row_capacity nodes claims rows = hlevel (IsSeenWell-prop, props)

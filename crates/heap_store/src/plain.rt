@@ -159,7 +159,7 @@ fn release(claims: &mut Vec<HeldClaim>, s: Ref)
 
 impl Heap for PlainHeap {
     ghost use Rattle.heap_store.specs.Opened.{view_of};
-    ghost use Rattle.heap_store.specs.Facts.{plain_lawful};
+    ghost use Rattle.heap_store.specs.PlainLaw.{plain_lawful};
     ghost view = { view_of };
 
     #[inline]
@@ -203,7 +203,7 @@ impl Heap for PlainHeap {
         place
     }
 
-    ghost lawful = { λ h. plain_lawful h.nodes.items (reverse h.claims.items) h.rows.items h.open_row h.capacity h.row_capacity h.refused h.last h.plain };
+    ghost lawful = { λ h. plain_lawful h.capacity h.row_capacity h.nodes.items (reverse h.claims.items) h.rows.items h.plain h.open_row h.refused h.last };
 }
 
 /// The row that is worked on, with a refusal noted.
