@@ -12,3 +12,5 @@ pub mod LawfulLaws
 pub mod RowLaws
 pub mod PlainLists
 pub mod PlainWorlds
+pub mod PlainSeen
+pub mod PlainSteps

@@ -74,11 +74,11 @@ filled-more m n k xs l =
 pub length-filled : {X : Type 0} (m : X) (n : ℕ) (xs : List X) → length xs ≤ n → length (filled_up m n xs) ≡ n
 length-filled m n xs l = length-append xs (replicate (n - length xs) m) ∙ (rw (length-replicate (n - length xs) m) (omega arith))
 
-count-append : {X : Type 0} (t : X → Bool) (xs ys : List X) → count_by t (xs ++ ys) ≡ count_by t xs + count_by t ys
+pub count-append : {X : Type 0} (t : X → Bool) (xs ys : List X) → count_by t (xs ++ ys) ≡ count_by t xs + count_by t ys
 count-append t [] ys = omega arith
 count-append t (x ∷ xs) ys = let ih = count-append t xs ys in grind (arith, common_steps, ih)
 
-count-replicate : {X : Type 0} (t : X → Bool) (m : X) (k : ℕ) → t m ≡ false → count_by t (replicate k m) ≡ 0
+pub count-replicate : {X : Type 0} (t : X → Bool) (m : X) (k : ℕ) → t m ≡ false → count_by t (replicate k m) ≡ 0
 count-replicate t m zero h = refl
 count-replicate t m (suc k) h = let ih = count-replicate t m k h in grind (arith, common_steps, ih, h)
 
@@ -319,11 +319,11 @@ mark-append : (b : Bool) (ys zs : List HeldClaim) → 0 < length ys → mark_new
 mark-append b [] zs l = absurd (omega arith)
 mark-append b (y ∷ ys) zs l = refl
 
-pub reverse-marked : (later : Bool) (i : ℕ) (xs : List HeldClaim) (c d : HeldClaim) → length xs ≡ i + 1 → c ≡ slice_index_or xs i d → reverse (slice_set xs i (record { place = c.place; built = true; passed = c.passed || later })) ≡ mark_newest later (reverse xs)
+pub reverse-marked : (later : Bool) (i : ℕ) (xs : List HeldClaim) (c d : HeldClaim) → length xs ≡ i + 1 → c ≡ slice_index_or xs i d → reverse (slice_set xs i (record c { built = true; passed = c.passed || later })) ≡ mark_newest later (reverse xs)
 reverse-marked later i [] c d l e = absurd (omega arith)
 reverse-marked later zero (x ∷ []) c d l e = rw e refl
 reverse-marked later zero (x ∷ y ∷ xs) c d l e = absurd (omega arith)
 reverse-marked later (suc i) (x ∷ xs) c d l e =
     let ih = reverse-marked later i xs c d (omega arith) e in
-    let v : HeldClaim = record { place = c.place; built = true; passed = c.passed || later } in
+    let v : HeldClaim = record c { built = true; passed = c.passed || later } in
     reverse-cons x (slice_set xs i v) ∙ (ap (λ z. z ++ x ∷ []) ih ∙ (sym (mark-append later (reverse xs) (x ∷ []) (rw length-reverse (omega arith))) ∙ ap (mark_newest later) (sym (reverse-cons x xs))))

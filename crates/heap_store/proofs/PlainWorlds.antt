@@ -64,7 +64,8 @@ module _ (capacity row_capacity : ℕ) (nodes : List (Option Node)) (claims : Li
   fixed_drawn =
       let t = published_rec (recs (plain_world capacity row_capacity nodes rows)) 4 is_no_tree (and_parts _ _ h.seen.lawful.fixed).1 in
       let n = rec_node (plain_world capacity row_capacity nodes rows) 4 t.0 t.1 in
-      omega (arith, drawn_there capacity row_capacity nodes rows 4 n.0 n.1)
+      let four : 4 < length nodes = drawn_there capacity row_capacity nodes rows 4 n.0 n.1 in
+      omega (arith, four)
 
   pub undrawn_row : (i : ℕ) → length rows < i → row_at (plain_world capacity row_capacity nodes rows) i ≡ None
   undrawn_row zero l = absurd (omega arith)

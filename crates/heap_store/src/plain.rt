@@ -1,5 +1,5 @@
 //! The store of one thread, over vectors.
-ghost use Rattle.std.specs.Prelude.{◌≡◌, ℕ, ◌+◌, ◌<◌, ◌≤◌, [], ◌∷◌, ◌++◌, true, reverse, replicate, option_map, slice_index, vec_len, vec_capacity};
+ghost use Rattle.std.specs.Prelude.{◌≡◌, ℕ, ◌+◌, ◌<◌, ◌≤◌, [], ◌∷◌, ◌++◌, ◌||◌, true, reverse, replicate, option_map, slice_index, vec_len, vec_capacity};
 ghost use Rattle.heap_store.specs.World.{fixed_places};
 ghost use Rattle.heap_store.specs.Hand.{without_claim, is_later, mark_newest, all_distinct, claim_places};
 ghost use Rattle.heap_store.specs.RowCalls.{begins};
@@ -126,6 +126,18 @@ fn is_later(rec: &Rec) -> bool
     }
 }
 
+/// A claim whose attempt has published a place, or the next suspension of its family.
+#[inline]
+fn marked(claim: HeldClaim, later: bool) -> HeldClaim
+    ensures { result ≡ record claim { built = true; passed = claim.passed || later } }
+{
+    HeldClaim {
+        place: claim.place,
+        built: true,
+        passed: claim.passed || later,
+    }
+}
+
 /// The newest claim's attempt has published a place, or the next suspension of its family.
 #[inline]
 fn mark_newest(claims: &mut Vec<HeldClaim>, later: bool)
@@ -134,12 +146,7 @@ fn mark_newest(claims: &mut Vec<HeldClaim>, later: bool)
 {
     let len = claims.len();
     if len > 0 {
-        let newest = claims[len - 1];
-        claims[len - 1] = HeldClaim {
-            place: newest.place,
-            built: true,
-            passed: newest.passed || later,
-        };
+        claims[len - 1] = marked(claims[len - 1], later);
     }
 }
 
