@@ -14,3 +14,4 @@ pub mod PlainLists
 pub mod PlainWorlds
 pub mod PlainSeen
 pub mod PlainSteps
+pub mod PlainReads

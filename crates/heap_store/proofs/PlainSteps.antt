@@ -25,7 +25,7 @@ use Rattle.heap_store.specs.Growth.{Grows}
 use Rattle.heap_store.specs.Lawful.{IsLawful, IsDoneWell}
 use Rattle.heap_store.specs.Hand.{Hand, contains, all_distinct, claim_places, fresh_claim, mark_newest, is_later, without, without_claim, hand_reserved, hand_put, hand_won, hand_released, places_from}
 use Rattle.heap_store.specs.View.{View, IsLawfulView, Reserved, Fits, Put, IsWon, Completed, MayComplete, GivenUp, is_unbuilt, is_unforced_node, unforced, SameRows}
-use Rattle.heap_store.specs.Plain.{IsPlain, IsSeenWell, plain_world, plain_hand, plain_view, filled_up, free_places, open_names, is_claimed_node, is_marked_well}
+use Rattle.heap_store.specs.Plain.{IsPlain, IsSeenWell, plain_world, plain_hand, plain_view, filled_up, fresh_node, free_places, open_names, is_claimed_node, is_marked_well}
 use Rattle.heap_store.proofs.GrowthLaws.{grows_refl}
 use Rattle.heap_store.proofs.ShowLaws.{one_value, node-same, node-other, put_grows, show_adds, state_grows, state-same, done-same}
 use Rattle.heap_store.proofs.LawfulLaws.{lawful_state}
@@ -204,6 +204,14 @@ module _ (capacity row_capacity : ℕ) (nodes : List (Option Node)) (claims : Li
         view-same capacity row_capacity refused last (mark_newest (is_later p r) claims) open_row _ (show w p r (Unforced 0)) _ (without p (p + 1) (free_places 0 nodes)) _ (open_names 1 rows) _ (length nodes - fixed_places) _ (length rows)
           (show-drawn capacity row_capacity nodes rows p r (Unforced 0) f.0) free refl (ap (λ z. z - fixed_places) (length-set nodes p n)) refl in
       subst (λ t. Put v t p r) (sym same) (put v p r inside f.1)
+
+  -- the same of what the code has at hand
+  module _ (p place : ℕ) (r : Rec) (n : Option Node) (later : Bool) (claims' : List HeldClaim) (at : place ≡ p) (node : n ≡ fresh_node r) (is : later ≡ is_later 0 r) (marked : claims' ≡ mark_newest later claims) (m : contains (free_places 0 nodes) p ≡ true) where
+    pub put_plain_at : Fits (plain_view nodes claims rows open_row capacity row_capacity refused last) p r → IsPlain capacity row_capacity (slice_set nodes place n) claims' rows
+    put_plain_at fits = rw (at, node, marked, is ∙ sym (is_later-any p r)) (put_plain p r m fits)
+
+    pub put_view_at : Put (plain_view nodes claims rows open_row capacity row_capacity refused last) (plain_view (slice_set nodes place n) claims' rows open_row capacity row_capacity refused last) p r
+    put_view_at = rw (at, node, marked, is ∙ sym (is_later-any p r)) (put_view p r m)
 
   -- a place shows another state
   module _ (p : ℕ) (r : Rec) (old s : SuspState) (here : node_at (plain_world capacity row_capacity nodes rows) p ≡ Some (record { rec = r; state = old })) where

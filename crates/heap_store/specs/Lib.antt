@@ -16,4 +16,3 @@ pub mod Shared
 pub mod Plain
 pub mod Props
 pub mod Opened
-pub mod PlainLaw

@@ -3,8 +3,9 @@ ghost use Rattle.std.specs.Prelude.{◌≡◌, ℕ, ◌+◌, ◌<◌, ◌≤◌,
 ghost use Rattle.heap_store.specs.World.{fixed_places};
 ghost use Rattle.heap_store.specs.Hand.{without_claim, is_later, mark_newest, all_distinct, claim_places};
 ghost use Rattle.heap_store.specs.RowCalls.{begins};
-ghost use Rattle.heap_store.specs.Plain.{IsPlain, fresh_node, five_records, row_after_end};
-ghost use Rattle.heap_store.specs.Props.{IsPlain-prop};
+ghost use Rattle.heap_store.specs.Plain.{IsPlain, plain_view, fresh_node, five_records, row_after_end};
+ghost use Rattle.heap_store.specs.Props.{IsPlain-prop, IsLawfulView-prop};
+ghost use Rattle.heap_store.specs.View.{IsLawfulView};
 
 use crate::claims::{Claim, Full, HeldClaim, NamesFull, OpenRow};
 use crate::heap::{Claims, Heap, Rows};
@@ -28,6 +29,7 @@ pub struct PlainHeap {
     ghost claim_room: { fixed_places + capacity ≤ vec_capacity claims },
     ghost row_room: { row_capacity ≤ vec_capacity rows },
     ghost plain: { IsPlain capacity row_capacity nodes.items (reverse claims.items) rows.items } by { IsPlain-prop capacity row_capacity nodes.items (reverse claims.items) rows.items },
+    ghost law: { IsLawfulView (plain_view nodes.items (reverse claims.items) rows.items open_row capacity row_capacity refused last) } by { IsLawfulView-prop (plain_view nodes.items (reverse claims.items) rows.items open_row capacity row_capacity refused last) },
 }
 
 impl PlainHeap {
@@ -166,7 +168,6 @@ fn release(claims: &mut Vec<HeldClaim>, s: Ref)
 
 impl Heap for PlainHeap {
     ghost use Rattle.heap_store.specs.Opened.{view_of};
-    ghost use Rattle.heap_store.specs.PlainLaw.{plain_lawful};
     ghost view = { view_of };
 
     #[inline]
@@ -210,7 +211,7 @@ impl Heap for PlainHeap {
         place
     }
 
-    ghost lawful = { λ h. plain_lawful h.capacity h.row_capacity h.nodes.items (reverse h.claims.items) h.rows.items h.plain h.open_row h.refused h.last };
+    ghost lawful = { λ h. h.law };
 }
 
 /// The row that is worked on, with a refusal noted.
