@@ -15,3 +15,4 @@ pub mod PlainWorlds
 pub mod PlainSeen
 pub mod PlainSteps
 pub mod PlainReads
+pub mod PlainRows

@@ -1,9 +1,9 @@
 -- What the calls on places and claims do to the fields of a plain heap and to its view.
-use Rattle.std.proofs.Common.{◌≡◌, ◌≢◌, ℕ, zero, suc, ◌+◌, ◌-◌, ◌<◌, ◌≤◌, Bool, true, false, List, [], ◌∷◌, ◌++◌, length, replicate, Option, Some, None, refl, sym, ap, ◌∙◌, arith, subst, inl, inr, ⊎_elim, cond, not, ◌&&◌, ◌||◌, eqb, min}
+use Rattle.std.proofs.Common.{◌≡◌, ◌≢◌, ℕ, zero, suc, ◌+◌, ◌-◌, ◌<◌, ◌≤◌, Bool, true, false, List, [], ◌∷◌, ◌++◌, length, replicate, Option, Some, None, refl, sym, ap, ◌∙◌, arith, subst, inl, inr, ⊎_elim, cond, not, ◌&&◌, ◌||◌, eqb, ltb, min}
 use Rattle.std.specs.Prelude.{count_by, slice_set, slice_index_or, option_map}
 use Rattle.std.specs.List.{list_all, list_any, sum_by}
 use Rattle.std.proofs.lemmas.Grind.{common_steps}
-use Rattle.std.proofs.lemmas.Bool.{cases_eq, cases_lt, true≢false, and_parts, and_from, lt-ltb}
+use Rattle.std.proofs.lemmas.Bool.{cases_eq, cases_lt, true≢false, and_parts, and_from, lt-ltb, ltb-true}
 use Rattle.std.proofs.lemmas.List.{length-set, length-append, length-replicate}
 use Rattle.std.proofs.lemmas.List.Sums.{sum_by-set, count_by-le-length}
 use Rattle.lazy_rec.specs.declared.records.Rec.{Rec}
@@ -31,7 +31,7 @@ use Rattle.heap_store.proofs.ShowLaws.{one_value, node-same, node-other, put_gro
 use Rattle.heap_store.proofs.LawfulLaws.{lawful_state}
 use Rattle.heap_store.proofs.Steps.{places-mark}
 use Rattle.heap_store.proofs.PlainLists.{count-append, count-replicate, filled-more, free-append, free-replicate, free-filled, free-same, length-without_claim, distinct-without_claim, all-without_claim, without_claim-absent}
-use Rattle.heap_store.proofs.PlainWorlds.{node-drawn, drawn_there, show-drawn, inside_world, rec_node, free_unpublished, fixed_drawn, lawful_hand, plain_lawful}
+use Rattle.heap_store.proofs.PlainWorlds.{node-drawn, drawn_there, show-drawn, inside_world, rec_node, published_rec, free_unpublished, fixed_drawn, lawful_hand, plain_lawful}
 use Rattle.heap_store.proofs.PlainSeen.{put_seen, won_seen, released_seen, unforced_no_next, unbuilt_no_next, claimed_pending, claimed-same}
 
 -- ---- views
@@ -166,6 +166,11 @@ unforced_fits g l = and_from _ _ (lt-ltb g 65536 l) refl
 done_fits : (place : Ref) (steps g : ℕ) → place.0 < 4194304 → steps < 4194304 → g < 65536 → state_in_range (Done place steps g) ≡ true
 done_fits place steps g l m n = and_from _ _ (lt-ltb g 65536 n) (and_from _ _ (lt-ltb steps 4194304 m) (and_from _ _ (lt-ltb place.0 4194304 l) refl))
 
+state_small : (s : SuspState) → state_in_range s ≡ true → given_up s < 65536
+state_small (Unforced g) h = ltb-true g 65536 (and_parts (ltb g 65536) _ h).0
+state_small (Claimed g) h = ltb-true g 65536 (and_parts (ltb g 65536) _ h).0
+state_small (Done place steps g) h = ltb-true g 65536 (and_parts (ltb g 65536) _ h).0
+
 -- ---- the fields
 
 module _ (capacity row_capacity : ℕ) (nodes : List (Option Node)) (claims : List HeldClaim) (rows : List (List ℕ)) (h : IsPlain capacity row_capacity nodes claims rows) (open_row : Option OpenRow) (refused : ℕ) (last : Full) where
@@ -251,8 +256,11 @@ module _ (capacity row_capacity : ℕ) (nodes : List (Option Node)) (claims : Li
         let y : cond (is_claimed s) 1 0 ≡ 1 = ap {B = ℕ} (λ z. cond z 1 0) b in
         omega (arith, many_after, k', x, y, h.many)
 
+  count_small : (p : ℕ) (r : Rec) (s : SuspState) → node_at (plain_world capacity row_capacity nodes rows) p ≡ Some (record { rec = r; state = s }) → given_up s < 65536
+  count_small p r s here = state_small s (h.seen.lawful.states p s (ap (option_map (λ (n : Node). n.state)) here))
+
   -- a claim is won
-  module _ (s : Ref) (r : Rec) (g : ℕ) (here : node_at (plain_world capacity row_capacity nodes rows) s.0 ≡ Some (record { rec = r; state = Unforced g })) (pending : is_pending r ≡ true) (small : g < 65536) where
+  module _ (s : Ref) (r : Rec) (g : ℕ) (here : node_at (plain_world capacity row_capacity nodes rows) s.0 ≡ Some (record { rec = r; state = Unforced g })) (pending : is_pending r ≡ true) where
     unclaimed : contains (claim_places claims) s.0 ≡ false
     unclaimed = h.seen.held s.0 ∙ ap is_claimed_node here
 
@@ -264,7 +272,7 @@ module _ (capacity row_capacity : ℕ) (nodes : List (Option Node)) (claims : Li
         let w = plain_world capacity row_capacity nodes rows in
         let l = inside s.0 r (Unforced g) (Claimed g) here in
         let none = unforced_no_next w h.seen.lawful s.0 r g here pending in
-        let law = lawful_state w s.0 r (Unforced g) (Claimed g) l here h.seen.lawful refl (omega arith) (inl refl) pending (claimed_fits g small) (λ d e. cc) in
+        let law = lawful_state w s.0 r (Unforced g) (Claimed g) l here h.seen.lawful refl (omega arith) (inl refl) pending (claimed_fits g (count_small s.0 r (Unforced g) here)) (λ d e. cc) in
         let grows = state_grows w s.0 r (Claimed g) l (Unforced g) here refl (omega arith) in
         state_plain s.0 r (Unforced g) (Claimed g) here (fresh_claim s ∷ claims)
           (won_seen w s.0 r (Unforced g) (Claimed g) l here claims h.seen law grows s refl unclaimed refl none)
@@ -296,9 +304,13 @@ module _ (capacity row_capacity : ℕ) (nodes : List (Option Node)) (claims : Li
           (released_seen w s r (Claimed g) st l here claims h.seen law grows free)
           (all-without_claim is_marked_well s claims h.marked) (distinct-without_claim s claims h.once) (omega (arith, y, len))
 
-    pub completed_plain : (place : Ref) (steps : ℕ) → MayComplete (plain_world capacity row_capacity nodes rows) s place.0 steps → place.0 < 4194304 → steps < 4194304 → g < 65536 → IsPlain capacity row_capacity (slice_set nodes s (Some (record { rec = r; state = Done place steps g }))) (without_claim s claims) rows
-    completed_plain place steps value low few small =
+    pub completed_plain : (place : Ref) (steps : ℕ) → MayComplete (plain_world capacity row_capacity nodes rows) s place.0 steps → steps < 4194304 → IsPlain capacity row_capacity (slice_set nodes s (Some (record { rec = r; state = Done place steps g }))) (without_claim s claims) rows
+    completed_plain place steps value few =
         let w = plain_world capacity row_capacity nodes rows in
+        let there = published_rec (recs w) place.0 _ (value r own).value in
+        let n = rec_node w place.0 there.0 there.1 in
+        let low : place.0 < 4194304 = omega (arith, drawn_there capacity row_capacity nodes rows place.0 n.0 n.1, h.fits, h.small) in
+        let small = count_small s r (Claimed g) here in
         let st : SuspState = Done place steps g in
         let l = inside s r (Claimed g) st here in
         let law = lawful_state w s r (Claimed g) st l here h.seen.lawful refl (omega arith) (inl refl) pending (done_fits place steps g low few small) (λ d e. subst (λ d. IsDoneWell w s r d) (one_value (place.0, steps) d e) (value r own)) in
@@ -309,8 +321,9 @@ module _ (capacity row_capacity : ℕ) (nodes : List (Option Node)) (claims : Li
         let v = plain_view nodes claims rows open_row capacity row_capacity refused last in
         subst (λ t. Completed v t s place.0 steps) (sym (state_view s r (Claimed g) (Done place steps g) here (without_claim s claims))) (completed v s r g place steps (inside s r (Claimed g) (Done place steps g) here) here)
 
-    pub given_up_plain : is_unbuilt (plain_hand nodes claims rows open_row) s ≡ true → g < 65536 → IsPlain capacity row_capacity (slice_set nodes s (Some (record { rec = r; state = Unforced (min (g + 1) 65535) }))) (without_claim s claims) rows
-    given_up_plain unbuilt small =
+    pub given_up_plain : is_unbuilt (plain_hand nodes claims rows open_row) s ≡ true → IsPlain capacity row_capacity (slice_set nodes s (Some (record { rec = r; state = Unforced (min (g + 1) 65535) }))) (without_claim s claims) rows
+    given_up_plain unbuilt =
+        let small : g < 65536 = count_small s r (Claimed g) here in
         let w = plain_world capacity row_capacity nodes rows in
         let st : SuspState = Unforced (min (g + 1) 65535) in
         let l = inside s r (Claimed g) st here in
@@ -318,10 +331,10 @@ module _ (capacity row_capacity : ℕ) (nodes : List (Option Node)) (claims : Li
         let law = lawful_state w s r (Claimed g) st l here h.seen.lawful refl (omega arith) (inr none) pending (unforced_fits (min (g + 1) 65535) (omega arith)) (λ d e. cc) in
         released_plain st refl law (state_grows w s r st l (Claimed g) here refl (omega arith))
 
-    pub given_up_view : g < 65536 → GivenUp (plain_view nodes claims rows open_row capacity row_capacity refused last) (plain_view (slice_set nodes s (Some (record { rec = r; state = Unforced (min (g + 1) 65535) }))) (without_claim s claims) rows open_row capacity row_capacity refused last) s
-    given_up_view small =
+    pub given_up_view : GivenUp (plain_view nodes claims rows open_row capacity row_capacity refused last) (plain_view (slice_set nodes s (Some (record { rec = r; state = Unforced (min (g + 1) 65535) }))) (without_claim s claims) rows open_row capacity row_capacity refused last) s
+    given_up_view =
         let v = plain_view nodes claims rows open_row capacity row_capacity refused last in
-        subst (λ t. GivenUp v t s) (sym (state_view s r (Claimed g) (Unforced (min (g + 1) 65535)) here (without_claim s claims))) (released v s r g (inside s r (Claimed g) (Unforced (min (g + 1) 65535)) here) small here)
+        subst (λ t. GivenUp v t s) (sym (state_view s r (Claimed g) (Unforced (min (g + 1) 65535)) here (without_claim s claims))) (released v s r g (inside s r (Claimed g) (Unforced (min (g + 1) 65535)) here) (count_small s r (Claimed g) here) here)
 
   -- places are reserved
   module _ (k : ℕ) (room : length nodes + k ≤ fixed_places + capacity) where
