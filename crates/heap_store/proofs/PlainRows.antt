@@ -228,6 +228,9 @@ after_end-open h name = by h.open_row
     by None = refl
     by (Some o) = pick (eqb o.name name) o
 
+abbrev pub hand_if : Bool → Bool → Hand → ℕ → Hand
+hand_if b e h name = elim b [ true ↦ hand_begun h name | false ↦ elim e [ true ↦ hand_ended h name | false ↦ h ] ]
+
 hand_with : Hand → List ℕ → Option OpenRow → Hand
 hand_with h names open_row = record h { names = names; open_row = open_row }
 
@@ -319,16 +322,16 @@ module _ (capacity row_capacity : ℕ) (nodes : List (Option Node)) (claims : Li
     -- the three outcomes
     pub stored_begun : begins i v ≡ true → Stored (plain_view nodes claims rows open_row capacity row_capacity refused last) (plain_view nodes claims (slice_set rows k (slice_set (slice_index_or rows k []) i v)) (Some (record { name = suc k; refused = false })) capacity row_capacity refused last) (suc k) i v
     unfolding hand_with
-    stored_begun e = stored_view (open_names 1 rows) (Some (record { name = suc k; refused = false })) (names-open (λ five. absurd (omega (arith, begins_first e, five)))) (rw e refl)
+    stored_begun e = stored_view (open_names 1 rows) (Some (record { name = suc k; refused = false })) (names-open (λ five. absurd (omega (arith, begins_first e, five)))) (sym (ap (λ b. hand_if b (eqb i 5) (plain_hand nodes claims rows open_row) (suc k)) e))
 
     pub stored_ended : begins i v ≡ false → i ≡ 5 → Stored (plain_view nodes claims rows open_row capacity row_capacity refused last) (plain_view nodes claims (slice_set rows k (slice_set (slice_index_or rows k []) i v)) (row_after_end (suc k) open_row) capacity row_capacity refused last) (suc k) i v
     unfolding hand_with
     stored_ended e five = stored_view (without (suc k) (suc k + 1) (open_names 1 rows)) (row_after_end (suc k) open_row) (names-ended five)
-        (rw (e, eq-eqb i 5 five) (ap (hand_with (plain_hand nodes claims rows open_row) (without (suc k) (suc k + 1) (open_names 1 rows))) (after_end-open (plain_hand nodes claims rows open_row) (suc k))))
+        (ap (hand_with (plain_hand nodes claims rows open_row) (without (suc k) (suc k + 1) (open_names 1 rows))) (after_end-open (plain_hand nodes claims rows open_row) (suc k)) ∙ sym (ap (λ b. hand_if b (eqb i 5) (plain_hand nodes claims rows open_row) (suc k)) e ∙ ap (λ b. hand_if false b (plain_hand nodes claims rows open_row) (suc k)) (eq-eqb i 5 five)))
 
     pub stored_on : begins i v ≡ false → (i ≡ 5 → ⊥) → Stored (plain_view nodes claims rows open_row capacity row_capacity refused last) (plain_view nodes claims (slice_set rows k (slice_set (slice_index_or rows k []) i v)) open_row capacity row_capacity refused last) (suc k) i v
     unfolding hand_with
-    stored_on e ne = stored_view (open_names 1 rows) open_row (names-open (λ five. ne (sym five))) (rw (e, not_five i ne) refl)
+    stored_on e ne = stored_view (open_names 1 rows) open_row (names-open (λ five. ne (sym five))) (sym (ap (λ b. hand_if b (eqb i 5) (plain_hand nodes claims rows open_row) (suc k)) e ∙ ap (λ b. hand_if false b (plain_hand nodes claims rows open_row) (suc k)) (not_five i ne)))
       where
         not_five : (j : ℕ) → (j ≡ 5 → ⊥) → eqb j 5 ≡ false
         not_five j other = by (eqb j 5) refl

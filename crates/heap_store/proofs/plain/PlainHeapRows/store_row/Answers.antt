@@ -6,14 +6,14 @@ overflow_sub-name c = ?
 pub index_mut-requires : goal.index_mut-requires
 index_mut-requires c = ?
 
-pub invariant_of-self : goal.invariant_of-self
-invariant_of-self c = ?
+pub invariant_of-self-clause-plain : goal.invariant_of-self-clause-plain
+invariant_of-self-clause-plain c = ?
 
-pub invariant_of-self-then-word-eq5 : goal.invariant_of-self-then-word-eq5
-invariant_of-self-then-word-eq5 c = ?
+pub invariant_of-self-then-word-eq5-clause-plain : goal.invariant_of-self-then-word-eq5-clause-plain
+invariant_of-self-then-word-eq5-clause-plain c = ?
 
-pub invariant_of-self-else-word-eq5 : goal.invariant_of-self-else-word-eq5
-invariant_of-self-else-word-eq5 c = ?
+pub invariant_of-self-else-word-eq5-clause-plain : goal.invariant_of-self-else-word-eq5-clause-plain
+invariant_of-self-else-word-eq5-clause-plain c = ?
 
 pub returns-then-begins : goal.returns-then-begins
 returns-then-begins c = ?
@@ -23,3 +23,21 @@ returns-then-word-eq5 c = ?
 
 pub returns-else-word-eq5 : goal.returns-else-word-eq5
 returns-else-word-eq5 c = ?
+
+pub invariant_of-self-clause-node_room : goal.invariant_of-self-clause-node_room
+invariant_of-self-clause-node_room c = ?
+
+pub invariant_of-self-then-word-eq5-clause-node_room : goal.invariant_of-self-then-word-eq5-clause-node_room
+invariant_of-self-then-word-eq5-clause-node_room c = ?
+
+pub invariant_of-self-else-word-eq5-clause-node_room : goal.invariant_of-self-else-word-eq5-clause-node_room
+invariant_of-self-else-word-eq5-clause-node_room c = ?
+
+pub invariant_of-self-clause-law : goal.invariant_of-self-clause-law
+invariant_of-self-clause-law c = ?
+
+pub invariant_of-self-then-word-eq5-clause-law : goal.invariant_of-self-then-word-eq5-clause-law
+invariant_of-self-then-word-eq5-clause-law c = ?
+
+pub invariant_of-self-else-word-eq5-clause-law : goal.invariant_of-self-else-word-eq5-clause-law
+invariant_of-self-else-word-eq5-clause-law c = ?
