@@ -54,7 +54,7 @@ all-without_claim test s (c ∷ cs) h = let ih = all-without_claim test s cs in 
 pub filled-within : {X : Type 0} (m d : X) (n : ℕ) (xs : List X) (j : ℕ) → j < length xs → slice_index_or (filled_up m n xs) j d ≡ slice_index_or xs j d
 filled-within m d n xs j l = get_or_append_left xs (replicate (n - length xs) m) d j l
 
-get_or-replicate_cases : {X : Type 0} (m : X) (k j : ℕ) → slice_index_or (replicate k m) j m ≡ m
+pub get_or-replicate_cases : {X : Type 0} (m : X) (k j : ℕ) → slice_index_or (replicate k m) j m ≡ m
 get_or-replicate_cases m k j = ⊎_elim
     (λ l. get_or-replicate k j m m l)
     (λ l. get_or_past (replicate k m) j m (rw length-replicate l)) (cases_lt j k)

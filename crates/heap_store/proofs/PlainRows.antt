@@ -3,7 +3,7 @@ use Rattle.std.proofs.Common.{◌≡◌, ◌≢◌, ℕ, zero, suc, ◌+◌, ◌
 use Rattle.std.specs.Prelude.{slice_set, slice_index_or, slice_get, option_map, option_and_then, is_some}
 use Rattle.std.specs.List.{list_any}
 use Rattle.std.proofs.lemmas.Bool.{cases_eq, cases_lt, true≢false, and_parts, and_from, eqb-true, eq-eqb, leb-true}
-use Rattle.std.proofs.lemmas.List.{length-set, length-append, get_or-set_same, get_or-set_other}
+use Rattle.std.proofs.lemmas.List.{length-set, length-append, get_or-set_same, get_or-set_other, get_or_default}
 use Rattle.lazy_rec.specs.declared.events.Op.{Op}
 use Rattle.lazy_rec.specs.declared.events.Kind.{Kind}
 use Rattle.lazy_rec.specs.declared.events.Event.{Event}
@@ -22,10 +22,10 @@ use Rattle.heap_store.specs.Lawful.{HasLaws, IsLawful, IsDoneWell}
 use Rattle.heap_store.specs.Hand.{Hand, contains, without, is_open, hand_begun, hand_ended, hand_named}
 use Rattle.heap_store.specs.View.{View}
 use Rattle.heap_store.specs.RowCalls.{Named, NoName, MayStore, Stored, is_word_value, is_version_word, begins, ends, hand_stored}
-use Rattle.heap_store.specs.Plain.{IsPlain, IsSeenWell, plain_world, plain_hand, plain_view, filled_up, no_words, free_places, open_names, is_ended_row, row_after_end}
+use Rattle.heap_store.specs.Plain.{IsPlain, IsSeenWell, plain_world, plain_hand, plain_view, filled_up, no_words, free_places, open_names, is_ended_row, row_after_end, row_after_word}
 use Rattle.heap_store.proofs.GrowthLaws.{grows_refl}
 use Rattle.heap_store.proofs.PlainLists.{filled-within, filled-set, filled-more, length-filled, open-append, open-same, open-ended}
-use Rattle.heap_store.proofs.PlainWorlds.{undrawn_row, words-drawn, name_to, plain_lawful}
+use Rattle.heap_store.proofs.PlainWorlds.{rows_undrawn, undrawn_row, words-drawn, name_to, plain_lawful}
 use Rattle.heap_store.proofs.PlainSteps.{view-same}
 
 -- ---- words
@@ -216,6 +216,25 @@ module _ (w : World) (k i v : ℕ) (there : k < length w.rows) where
 
 -- ---- the fields
 
+not_five : (j : ℕ) → (j ≡ 5 → ⊥) → eqb j 5 ≡ false
+not_five j other = by (eqb j 5) refl
+  where
+    by : (b : Bool) → eqb j 5 ≡ b → eqb j 5 ≡ false
+    by true f = absurd (other (eqb-true j 5 f))
+    by false f = f
+
+zero_word : (i : ℕ) → word no_words i ≡ 0
+zero_word zero = refl
+zero_word (suc zero) = refl
+zero_word (suc (suc zero)) = refl
+zero_word (suc (suc (suc zero))) = refl
+zero_word (suc (suc (suc (suc zero)))) = refl
+zero_word (suc (suc (suc (suc (suc zero))))) = refl
+zero_word (suc (suc (suc (suc (suc (suc i)))))) = refl
+
+no_word : (i : ℕ) → word [] i ≡ 0
+no_word i = refl
+
 -- the hand after a word is stored
 after_end-open : (h : Hand) (name : ℕ) → row_after_end name h.open_row ≡ (elim (is_open h name) [ true ↦ None | false ↦ h.open_row ])
 after_end-open h name = by h.open_row
@@ -320,25 +339,76 @@ module _ (capacity row_capacity : ℕ) (nodes : List (Option Node)) (claims : Li
         first (suc j) e = absurd (true≢false (sym e))
 
     -- the three outcomes
-    pub stored_begun : begins i v ≡ true → Stored (plain_view nodes claims rows open_row capacity row_capacity refused last) (plain_view nodes claims (slice_set rows k (slice_set (slice_index_or rows k []) i v)) (Some (record { name = suc k; refused = false })) capacity row_capacity refused last) (suc k) i v
+    stored_begun : begins i v ≡ true → Stored (plain_view nodes claims rows open_row capacity row_capacity refused last) (plain_view nodes claims (slice_set rows k (slice_set (slice_index_or rows k []) i v)) (Some (record { name = suc k; refused = false })) capacity row_capacity refused last) (suc k) i v
     unfolding hand_with
     stored_begun e = stored_view (open_names 1 rows) (Some (record { name = suc k; refused = false })) (names-open (λ five. absurd (omega (arith, begins_first e, five)))) (sym (ap (λ b. hand_if b (eqb i 5) (plain_hand nodes claims rows open_row) (suc k)) e))
 
-    pub stored_ended : begins i v ≡ false → i ≡ 5 → Stored (plain_view nodes claims rows open_row capacity row_capacity refused last) (plain_view nodes claims (slice_set rows k (slice_set (slice_index_or rows k []) i v)) (row_after_end (suc k) open_row) capacity row_capacity refused last) (suc k) i v
+    stored_ended : begins i v ≡ false → i ≡ 5 → Stored (plain_view nodes claims rows open_row capacity row_capacity refused last) (plain_view nodes claims (slice_set rows k (slice_set (slice_index_or rows k []) i v)) (row_after_end (suc k) open_row) capacity row_capacity refused last) (suc k) i v
     unfolding hand_with
     stored_ended e five = stored_view (without (suc k) (suc k + 1) (open_names 1 rows)) (row_after_end (suc k) open_row) (names-ended five)
         (ap (hand_with (plain_hand nodes claims rows open_row) (without (suc k) (suc k + 1) (open_names 1 rows))) (after_end-open (plain_hand nodes claims rows open_row) (suc k)) ∙ sym (ap (λ b. hand_if b (eqb i 5) (plain_hand nodes claims rows open_row) (suc k)) e ∙ ap (λ b. hand_if false b (plain_hand nodes claims rows open_row) (suc k)) (eq-eqb i 5 five)))
 
-    pub stored_on : begins i v ≡ false → (i ≡ 5 → ⊥) → Stored (plain_view nodes claims rows open_row capacity row_capacity refused last) (plain_view nodes claims (slice_set rows k (slice_set (slice_index_or rows k []) i v)) open_row capacity row_capacity refused last) (suc k) i v
+    stored_on : begins i v ≡ false → (i ≡ 5 → ⊥) → Stored (plain_view nodes claims rows open_row capacity row_capacity refused last) (plain_view nodes claims (slice_set rows k (slice_set (slice_index_or rows k []) i v)) open_row capacity row_capacity refused last) (suc k) i v
     unfolding hand_with
     stored_on e ne = stored_view (open_names 1 rows) open_row (names-open (λ five. ne (sym five))) (sym (ap (λ b. hand_if b (eqb i 5) (plain_hand nodes claims rows open_row) (suc k)) e ∙ ap (λ b. hand_if false b (plain_hand nodes claims rows open_row) (suc k)) (not_five i ne)))
+
+    stored : Stored (plain_view nodes claims rows open_row capacity row_capacity refused last) (plain_view nodes claims (slice_set rows k (slice_set (slice_index_or rows k []) i v)) (row_after_word (suc k) i v open_row) capacity row_capacity refused last) (suc k) i v
+    stored = by (begins i v) refl
       where
-        not_five : (j : ℕ) → (j ≡ 5 → ⊥) → eqb j 5 ≡ false
-        not_five j other = by (eqb j 5) refl
-          where
-            by : (b : Bool) → eqb j 5 ≡ b → eqb j 5 ≡ false
-            by true f = absurd (other (eqb-true j 5 f))
-            by false f = f
+        with_row : (o : Option OpenRow) → row_after_word (suc k) i v open_row ≡ o → Stored (plain_view nodes claims rows open_row capacity row_capacity refused last) (plain_view nodes claims (slice_set rows k (slice_set (slice_index_or rows k []) i v)) o capacity row_capacity refused last) (suc k) i v → Stored (plain_view nodes claims rows open_row capacity row_capacity refused last) (plain_view nodes claims (slice_set rows k (slice_set (slice_index_or rows k []) i v)) (row_after_word (suc k) i v open_row) capacity row_capacity refused last) (suc k) i v
+        with_row o e s = subst (λ o. Stored (plain_view nodes claims rows open_row capacity row_capacity refused last) (plain_view nodes claims (slice_set rows k (slice_set (slice_index_or rows k []) i v)) o capacity row_capacity refused last) (suc k) i v) (sym e) s
+
+        by : (b : Bool) → begins i v ≡ b → Stored (plain_view nodes claims rows open_row capacity row_capacity refused last) (plain_view nodes claims (slice_set rows k (slice_set (slice_index_or rows k []) i v)) (row_after_word (suc k) i v open_row) capacity row_capacity refused last) (suc k) i v
+        by true e = with_row (Some (record { name = suc k; refused = false })) (ap (λ b. cond b (Some (record { name = suc k; refused = false })) (cond (ends i) (row_after_end (suc k) open_row) open_row)) e) (stored_begun e)
+        by false e = ⊎_elim
+            (λ five. with_row (row_after_end (suc k) open_row) (ap (λ b. cond b (Some (record { name = suc k; refused = false })) (cond (ends i) (row_after_end (suc k) open_row) open_row)) e ∙ ap (λ b. cond b (row_after_end (suc k) open_row) open_row) (eq-eqb i 5 five)) (stored_ended e five))
+            (λ ne. with_row open_row (ap (λ b. cond b (Some (record { name = suc k; refused = false })) (cond (ends i) (row_after_end (suc k) open_row) open_row)) e ∙ ap (λ b. cond b (row_after_end (suc k) open_row) open_row) (not_five i ne)) (stored_on e ne))
+            (cases_eq i 5)
+
+  -- the same of what the code has at hand
+  module _ (name i v : ℕ) (may : MayStore (plain_view nodes claims rows open_row capacity row_capacity refused last) name i v) where
+    named_low : 1 ≤ name
+    named_low = (name_to capacity row_capacity nodes claims rows h name may.drawn).0
+
+    pub name_low : 1 ≤ name
+    name_low = named_low
+
+    pub row_drawn : name - 1 < length rows
+    row_drawn = let t = name_to capacity row_capacity nodes claims rows h name may.drawn in omega (arith, t.0, t.2)
+
+    next_is : suc (name - 1) ≡ name
+    next_is = let l = named_low in omega arith
+
+    may_store : MayStore (plain_view nodes claims rows open_row capacity row_capacity refused last) (suc (name - 1)) i v
+    may_store = subst (λ z. MayStore (plain_view nodes claims rows open_row capacity row_capacity refused last) z i v) (sym next_is) may
+
+    module _ (ws : List ℕ) (read : ws ≡ slice_index_or rows (name - 1) ws) where
+      words_are : ws ≡ slice_index_or rows (name - 1) []
+      words_are = read ∙ sym (get_or_default rows (name - 1) [] ws row_drawn)
+
+      pub stored_plain_at : IsPlain capacity row_capacity nodes claims (slice_set rows (name - 1) (slice_set ws i v))
+      stored_plain_at = subst (λ z. IsPlain capacity row_capacity nodes claims (slice_set rows (name - 1) (slice_set z i v))) (sym words_are) (stored_plain (name - 1) i v may_store)
+
+      pub stored_view_at : Stored (plain_view nodes claims rows open_row capacity row_capacity refused last) (plain_view nodes claims (slice_set rows (name - 1) (slice_set ws i v)) (row_after_word name i v open_row) capacity row_capacity refused last) name i v
+      stored_view_at =
+          let s : Stored (plain_view nodes claims rows open_row capacity row_capacity refused last) (plain_view nodes claims (slice_set rows (name - 1) (slice_set (slice_index_or rows (name - 1) []) i v)) (row_after_word name i v open_row) capacity row_capacity refused last) name i v =
+            subst (λ z. Stored (plain_view nodes claims rows open_row capacity row_capacity refused last) (plain_view nodes claims (slice_set rows (name - 1) (slice_set (slice_index_or rows (name - 1) []) i v)) (row_after_word z i v open_row) capacity row_capacity refused last) z i v) next_is (stored (name - 1) i v may_store) in
+          subst (λ z. Stored (plain_view nodes claims rows open_row capacity row_capacity refused last) (plain_view nodes claims (slice_set rows (name - 1) (slice_set z i v)) (row_after_word name i v open_row) capacity row_capacity refused last) name i v) (sym words_are) s
+
+  -- a word is loaded
+  pub loaded : (name i : ℕ) (ws : List ℕ) → 1 ≤ name → name - 1 < length rows → ws ≡ slice_index_or rows (name - 1) ws → word ws i ≡ word_at (plain_world capacity row_capacity nodes rows) name i
+  loaded name i ws low l read =
+      let next : suc (name - 1) ≡ name = omega arith in
+      let e : word ws i ≡ word_at (plain_world capacity row_capacity nodes rows) (suc (name - 1)) i = ap (λ z. word z i) ((read ∙ sym (get_or_default rows (name - 1) [] ws l)) ∙ sym (words-drawn capacity row_capacity nodes claims rows h (name - 1) l)) in
+      subst (λ z. word ws i ≡ word_at (plain_world capacity row_capacity nodes rows) z i) next e
+
+  pub loaded_zero : (name i : ℕ) → 1 ≤ name → length rows ≤ name - 1 → 0 ≡ word_at (plain_world capacity row_capacity nodes rows) name i
+  loaded_zero name i low l =
+      let next : suc (name - 1) ≡ name = omega arith in
+      let e : 0 ≡ word_at (plain_world capacity row_capacity nodes rows) (suc (name - 1)) i = ⊎_elim
+            (λ f. sym (ap (λ z. word z i) f ∙ zero_word i))
+            (λ f. sym (ap (λ z. word z i) f ∙ no_word i)) (rows_undrawn row_capacity (name - 1) rows l) in
+      subst (λ z. 0 ≡ word_at (plain_world capacity row_capacity nodes rows) z i) next e
 
   -- a name is drawn
   module _ (room : length rows < row_capacity) where

@@ -54,7 +54,7 @@ published_rec rs p test h = at_true test (rs p) h
 
 -- ---- the law of the view
 
-rows_undrawn : (n k : ℕ) (rows : List (List ℕ)) → length rows ≤ k → (slice_index_or (filled_up no_words n rows) k [] ≡ no_words) ⊎ (slice_index_or (filled_up no_words n rows) k [] ≡ [])
+pub rows_undrawn : (n k : ℕ) (rows : List (List ℕ)) → length rows ≤ k → (slice_index_or (filled_up no_words n rows) k [] ≡ no_words) ⊎ (slice_index_or (filled_up no_words n rows) k [] ≡ [])
 rows_undrawn n k rows l = ⊎_elim
     (λ m. inl (get_or_default (filled_up no_words n rows) k [] no_words m ∙ filled-beyond no_words n rows k l))
     (λ m. inr (get_or_past (filled_up no_words n rows) k [] m)) (cases_lt k (length (filled_up no_words n rows)))

@@ -18,6 +18,7 @@ use Rattle.heap_store.specs.Lawful.{IsLawful}
 use Rattle.heap_store.specs.LookedAt.{HasRoots}
 use Rattle.heap_store.specs.Hand.{Hand, contains, all_distinct, claim_places, is_claim_well}
 use Rattle.heap_store.specs.View.{View}
+use Rattle.heap_store.specs.RowCalls.{begins, ends}
 
 -- a list with so many elements in all, the missing ones at its end
 abbrev pub filled_up : {X : Type 0} → X → ℕ → List X → List X
@@ -60,6 +61,10 @@ is_claimed_node o = is_some_and (λ (n : Node). is_claimed n.state) o
 abbrev pub row_after_end : ℕ → Option OpenRow → Option OpenRow
 row_after_end name None = None
 row_after_end name (Some o) = cond (eqb o.name name) None (Some o)
+
+-- the row that is worked on after a word of the row of a name is stored
+abbrev pub row_after_word : ℕ → ℕ → ℕ → Option OpenRow → Option OpenRow
+row_after_word name i value row = cond (begins i value) (Some (record { name = name; refused = false })) (cond (ends i) (row_after_end name row) row)
 
 -- what the drawn places and rows show, in a store of so many places and rows
 abbrev pub plain_world : ℕ → ℕ → List (Option Node) → List (List ℕ) → World

@@ -2,8 +2,7 @@
 ghost use Rattle.std.specs.Prelude.{◌≡◌, ℕ, ◌+◌, ◌<◌, ◌≤◌, [], ◌∷◌, ◌++◌, ◌||◌, true, reverse, replicate, option_map, slice_index, vec_len, vec_capacity};
 ghost use Rattle.heap_store.specs.World.{fixed_places};
 ghost use Rattle.heap_store.specs.Hand.{without_claim, is_later, mark_newest, all_distinct, claim_places};
-ghost use Rattle.heap_store.specs.RowCalls.{begins};
-ghost use Rattle.heap_store.specs.Plain.{IsPlain, plain_view, fresh_node, five_records, row_after_end};
+ghost use Rattle.heap_store.specs.Plain.{IsPlain, plain_view, fresh_node, five_records, row_after_end, row_after_word};
 ghost use Rattle.heap_store.specs.Props.{IsPlain-prop, IsLawfulView-prop};
 ghost use Rattle.heap_store.specs.View.{IsLawfulView};
 
@@ -281,13 +280,6 @@ fn word_of(row: &[u64; 6], word: u32) -> u64
     row[word as usize]
 }
 
-/// Whether a word's value begins a row: word 0 of an event that is begun.
-fn begins(word: u32, value: u64) -> bool
-    ensures { result ≡ begins word value }
-{
-    word == 0 && value % 2 == 1
-}
-
 /// The row that is worked on after the row of this name has ended.
 fn after_end(row: Option<OpenRow>, name: u32) -> Option<OpenRow>
     ensures { result ≡ row_after_end name row }
@@ -295,6 +287,17 @@ fn after_end(row: Option<OpenRow>, name: u32) -> Option<OpenRow>
     match row {
         Some(open) if open.name == name => None,
         other => other,
+    }
+}
+
+/// The row that is worked on after a word of the row of this name is stored.
+fn open_row_after(row: Option<OpenRow>, name: u32, word: u32, value: u64) -> Option<OpenRow>
+    ensures { result ≡ row_after_word name word value row }
+{
+    match word {
+        0 if value % 2 == 1 => Some(OpenRow { name, refused: false }),
+        5 => after_end(row, name),
+        _ => row,
     }
 }
 
@@ -310,11 +313,7 @@ impl Rows for PlainHeap {
 
     fn store_row(&mut self, name: u32, word: u32, value: u64) {
         self.rows[name as usize - 1][word as usize] = value;
-        if begins(word, value) {
-            self.open_row = Some(OpenRow { name, refused: false });
-        } else if word == 5 {
-            self.open_row = after_end(self.open_row, name);
-        }
+        self.open_row = open_row_after(self.open_row, name, word, value);
     }
 
     fn load_row(&mut self, name: u32, word: u32) -> u64 {
