@@ -16,3 +16,4 @@ pub mod PlainSeen
 pub mod PlainSteps
 pub mod PlainReads
 pub mod PlainRows
+pub mod PlainOpen
