@@ -10,3 +10,4 @@ pub mod Steps
 pub mod ShowLaws
 pub mod LawfulLaws
 pub mod RowLaws
+pub mod HistoryLaws
