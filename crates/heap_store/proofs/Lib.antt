@@ -17,3 +17,4 @@ pub mod PlainSteps
 pub mod PlainReads
 pub mod PlainRows
 pub mod PlainOpen
+pub mod HistoryLaws

@@ -442,6 +442,7 @@ module _ (capacity row_capacity : ℕ) (nodes : List (Option Node)) (claims : Li
           low = omega (arith, e);
           high = omega (arith, e, room);
           unseen = λ i r g. ⊎_elim (λ l. omega (arith, l, e)) (λ l. (let none = undrawn_row capacity row_capacity nodes claims rows h i (omega (arith, l)) in let z : None ≡ Some r = sym none ∙ g in cc)) (cases_lt i (length rows + 1));
+          empty = λ j. sym (loaded_zero name j (omega (arith, e)) (omega (arith, e)));
           hand = refl;
           about = refl;
           refusals = refl;

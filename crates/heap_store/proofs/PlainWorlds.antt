@@ -64,8 +64,10 @@ module _ (capacity row_capacity : ℕ) (nodes : List (Option Node)) (claims : Li
   fixed_drawn =
       let t = published_rec (recs (plain_world capacity row_capacity nodes rows)) 4 is_no_tree (and_parts _ _ h.seen.lawful.fixed).1 in
       let n = rec_node (plain_world capacity row_capacity nodes rows) 4 t.0 t.1 in
-      let four : 4 < length nodes = drawn_there capacity row_capacity nodes rows 4 n.0 n.1 in
-      omega (arith, four)
+      from_four (drawn_there capacity row_capacity nodes rows 4 n.0 n.1)
+    where
+      from_four : 4 < length nodes → fixed_places ≤ length nodes
+      from_four l = omega arith
 
   pub undrawn_row : (i : ℕ) → length rows < i → row_at (plain_world capacity row_capacity nodes rows) i ≡ None
   undrawn_row zero l = absurd (omega arith)
@@ -107,6 +109,10 @@ module _ (capacity row_capacity : ℕ) (nodes : List (Option Node)) (claims : Li
     names_once = distinct-open 1 rows;
   }
 
+  words_six : (i : ℕ) → 1 ≤ i → i ≤ row_capacity → length (words_at (plain_world capacity row_capacity nodes rows) i) ≡ 6
+  words_six zero low high = absurd (omega arith)
+  words_six (suc k) low high = h.seen.wide k (rw (length-filled no_words row_capacity rows h.rows_fit) (omega arith))
+
   pub plain_lawful : (open_row : Option OpenRow) (refused : ℕ) (last : Full) → IsLawfulView (plain_view nodes claims rows open_row capacity row_capacity refused last)
   plain_lawful open_row refused last =
       let counted = count-filled is_there None (fixed_places + capacity) nodes refl in
@@ -117,6 +123,7 @@ module _ (capacity row_capacity : ℕ) (nodes : List (Option Node)) (claims : Li
         roots = h.seen.roots;
         plan = λ events e i r k. cc;
         hand = lawful_hand open_row;
+        words = words_six;
         places = omega (arith, counted, all, h.fits);
         drawn = λ _. omega (arith, counted, all, fixed_drawn);
         room = λ _. omega (arith, h.fits);
