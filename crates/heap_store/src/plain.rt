@@ -42,9 +42,15 @@ impl PlainHeap {
         ensures { IfOk result (λ h. view_of h ≡ opened_view nodes rows) }
     {
         let places = nodes as usize + 5;
-        let Ok(node_room) = Vec::with_capacity(alloc, places) else { return Err(NoMemory) };
-        let Ok(claims) = Vec::with_capacity(alloc, places) else { return Err(NoMemory) };
-        let Ok(row_room) = Vec::with_capacity(alloc, rows as usize) else { return Err(NoMemory) };
+        let Ok(node_room) = Vec::with_capacity(alloc, places) else {
+            return Err(NoMemory)
+        };
+        let Ok(claims) = Vec::with_capacity(alloc, places) else {
+            return Err(NoMemory)
+        };
+        let Ok(row_room) = Vec::with_capacity(alloc, rows as usize) else {
+            return Err(NoMemory)
+        };
         Ok(PlainHeap {
             nodes: with_fixed_records(node_room),
             claims,
@@ -53,7 +59,10 @@ impl PlainHeap {
             capacity: nodes,
             row_capacity: rows,
             refused: 0,
-            last: Full { drawn: 0, wanted: 0 },
+            last: Full {
+                drawn: 0,
+                wanted: 0,
+            },
         })
     }
 }
@@ -159,7 +168,9 @@ fn release(claims: &mut Vec<HeldClaim>, s: Ref)
 {
     let len = claims.len();
     if len > 0 && claims[len - 1].place.0 == s.0 {
-        let Some(_) = claims.pop() else { unreachable!() };
+        let Some(_) = claims.pop() else {
+            unreachable!()
+        };
         return;
     }
     claims.retain(|c| c.place.0 != s.0);
@@ -167,6 +178,7 @@ fn release(claims: &mut Vec<HeldClaim>, s: Ref)
 
 impl Heap for PlainHeap {
     ghost use Rattle.heap_store.specs.Opened.{view_of};
+
     ghost view = { view_of };
 
     #[inline]
@@ -229,7 +241,9 @@ fn refused_row(row: Option<OpenRow>) -> Option<OpenRow>
 impl Claims for PlainHeap {
     #[inline]
     fn claim(&mut self, s: Ref) -> Claim {
-        let Some(node) = self.nodes[s.0 as usize] else { unreachable!() };
+        let Some(node) = self.nodes[s.0 as usize] else {
+            unreachable!()
+        };
         match node.state {
             SuspState::Unforced { given_up } => {
                 self.nodes[s.0 as usize] = Some(Node {
@@ -252,21 +266,35 @@ impl Claims for PlainHeap {
     }
 
     fn complete(&mut self, s: Ref, place: Ref, steps: u32) {
-        let Some(node) = self.nodes[s.0 as usize] else { unreachable!() };
-        let SuspState::Claimed { given_up } = node.state else { unreachable!() };
+        let Some(node) = self.nodes[s.0 as usize] else {
+            unreachable!()
+        };
+        let SuspState::Claimed { given_up } = node.state else {
+            unreachable!()
+        };
         self.nodes[s.0 as usize] = Some(Node {
             rec: node.rec,
-            state: SuspState::Done { place, steps, given_up },
+            state: SuspState::Done {
+                place,
+                steps,
+                given_up,
+            },
         });
         release(&mut self.claims, s);
     }
 
     fn give_up(&mut self, s: Ref) {
-        let Some(node) = self.nodes[s.0 as usize] else { unreachable!() };
-        let SuspState::Claimed { given_up } = node.state else { unreachable!() };
+        let Some(node) = self.nodes[s.0 as usize] else {
+            unreachable!()
+        };
+        let SuspState::Claimed { given_up } = node.state else {
+            unreachable!()
+        };
         self.nodes[s.0 as usize] = Some(Node {
             rec: node.rec,
-            state: SuspState::Unforced { given_up: given_up.saturating_add(1) },
+            state: SuspState::Unforced {
+                given_up: given_up.saturating_add(1),
+            },
         });
         release(&mut self.claims, s);
     }
@@ -295,7 +323,10 @@ fn open_row_after(row: Option<OpenRow>, name: u32, word: u32, value: u64) -> Opt
     ensures { result ≡ row_after_word name word value row }
 {
     match word {
-        0 if value % 2 == 1 => Some(OpenRow { name, refused: false }),
+        0 if value % 2 == 1 => Some(OpenRow {
+            name,
+            refused: false,
+        }),
         5 => after_end(row, name),
         _ => row,
     }
@@ -305,7 +336,9 @@ impl Rows for PlainHeap {
     fn draw_name(&mut self) -> Result<u32, NamesFull> {
         let drawn = self.rows.len() as u32;
         if drawn == self.row_capacity {
-            return Err(NamesFull { drawn: drawn as u64 });
+            return Err(NamesFull {
+                drawn: drawn as u64,
+            });
         }
         add(&mut self.rows, [0; 6]);
         Ok(drawn + 1)
@@ -318,7 +351,11 @@ impl Rows for PlainHeap {
 
     fn load_row(&mut self, name: u32, word: u32) -> u64 {
         let at = name as usize - 1;
-        if at < self.rows.len() { word_of(&self.rows[at], word) } else { 0 }
+        if at < self.rows.len() {
+            word_of(&self.rows[at], word)
+        } else {
+            0
+        }
     }
 
     fn load_counts(&mut self) -> (u64, u64) {
