@@ -362,3 +362,6 @@ impl Rows for PlainHeap {
         (self.rows.len() as u64, self.nodes.len() as u64 - 5)
     }
 }
+
+#[cfg(test)]
+mod tests;
