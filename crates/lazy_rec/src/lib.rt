@@ -3,6 +3,7 @@
 #![tactic(auto)]
 
 pub mod events;
+mod fields;
 pub mod numbers;
 pub mod packing;
 pub mod places;
