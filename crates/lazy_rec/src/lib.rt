@@ -17,3 +17,6 @@ pub use packing::{decode, unpack};
 pub use places::{Item, Ref};
 pub use records::{Rec, Sort};
 pub use states::SuspState;
+
+#[cfg(test)]
+mod tests;
