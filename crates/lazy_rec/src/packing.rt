@@ -2,6 +2,7 @@
 
 ghost use Rattle.std.specs.Prelude.{◌≡◌, true, IfSome, IfNone};
 ghost use Rattle.lazy_rec.specs.Packed.{in_range, words_of};
+ghost use Rattle.lazy_rec.specs.Shown.{shown};
 
 use crate::fields::{
     field_at, flag_at, flag_field, item_at, item_field, place_at, place_field, size_at, size_field,
@@ -314,11 +315,20 @@ impl Rec {
     }
 }
 
-/// The record of words that a record in range packs to. At other words it answers some record or other; `unpack` tells them
-/// apart.
+/// The record that these words show. It is the record that packs to them, where one in range does; at other words it is
+/// some record or other, and `unpack` tells them apart.
 #[inline(always)]
 pub fn decode(words: [u64; 4]) -> Rec
-    ensures { (r : Rec) → in_range r ≡ true → words ≡ words_of r → result ≡ r }
+    ensures shown { result ≡ shown words }
+    ensures packed { (r : Rec) → in_range r ≡ true → words ≡ words_of r → result ≡ r }
+{
+    shown(words)
+}
+
+/// The record that the words show, by the tag in the first one.
+#[inline(always)]
+fn shown(words: [u64; 4]) -> Rec
+    ensures { result ≡ shown words }
 {
     let [first, second, third, fourth] = words;
     match field_at(first, 0, 6) {
@@ -513,3 +523,11 @@ pub fn unpack(words: [u64; 4]) -> Option<Rec>
         None
     }
 }
+
+/// A law: two records in range with the same words are one record.
+pub fn words_determine_record(first: &Rec, second: &Rec)
+    requires first_fits { in_range first.now ≡ true }
+    requires second_fits { in_range second.now ≡ true }
+    requires same_words { words_of first.now ≡ words_of second.now }
+    ensures { first.now ≡ second.now }
+{}
