@@ -14,7 +14,7 @@ use Rattle.heap_store.specs.declared.claims.Claim.TheVariants as answers
 use Rattle.heap_store.specs.declared.claims.Full.{Full}
 use Rattle.heap_store.specs.Span.{Span}
 use Rattle.heap_store.specs.World.{World, recs, state_at, done_at, is_claimed_at, show, fixed_places}
-use Rattle.heap_store.specs.Rows.{row_at, is_ended_at}
+use Rattle.heap_store.specs.Rows.{row_at, words_at, is_ended_at}
 use Rattle.heap_store.specs.Growth.{Grows}
 use Rattle.heap_store.specs.Legal.{IsLegal, FollowsPlan}
 use Rattle.heap_store.specs.Lawful.{HasLaws, IsLawful, IsDoneWell, has_origin}
@@ -63,14 +63,15 @@ pub record IsLawfulView (v : View) : Type 0 where
   pub world : IsLawful v.seen
   pub legal : IsLegal v.seen
   pub roots : HasRoots v.seen
-  pub plan : FollowsPlan v.about.plan v.seen
+  pub plan : FollowsPlan v.about.plan (row_at v.seen)
   pub hand : IsLawfulHand v.seen v.hand
+  pub words : (i : ℕ) → 1 ≤ i → i ≤ v.about.rows → length (words_at v.seen i) ≡ 6
   pub places : published_count v.seen + length v.hand.reserved ≤ fixed_places + v.about.capacity
   pub drawn : v.about.alone ≡ true → published_count v.seen + length v.hand.reserved ≡ fixed_places + v.drawn
   pub room : v.about.alone ≡ true → v.drawn ≤ v.about.capacity
   pub claimed : v.about.alone ≡ true → (s : ℕ) → is_claimed_at v.seen s ≡ true → holds_claim v.hand s ≡ true
   pub unnamed : v.about.alone ≡ true → (i : ℕ) → v.named < i → row_at v.seen i ≡ None
-  pub names : v.about.alone ≡ true → (i : ℕ) → 1 ≤ i → i ≤ v.named → is_ended_at v.seen i ≡ false → contains v.hand.names i ≡ true
+  pub names : v.about.alone ≡ true → (i : ℕ) → 1 ≤ i → i ≤ v.named → is_ended_at (row_at v.seen) i ≡ false → contains v.hand.names i ≡ true
   pub rows : v.about.alone ≡ true → v.named ≤ v.about.rows
 
 -- ---- what the calls do
