@@ -1,23 +1,19 @@
 -- What growth keeps of the claims of a force.
-use Rattle.std.proofs.Common.{◌≡◌, ℕ, zero, suc, ◌+◌, ◌*◌, ◌<◌, ◌≤◌, min, Bool, true, false, not, ◌&&◌, ◌||◌, List, [], ◌∷◌, ◌++◌, map, Option, Some, None, refl, sym, ap, ◌∙◌, arith}
-use Rattle.std.specs.Prelude.{option_map, option_and_then, eqb, is_some}
-use Rattle.std.specs.List.{list_all}
-use Rattle.std.proofs.lemmas.Grind.{common_steps}
-use Rattle.std.proofs.lemmas.Bool.{true≢false, eqb-true, and_parts, and_from, or_left, or_right}
+use Rattle.std.proofs.Common.{◌≡◌, ℕ, zero, suc, ◌≤◌, Bool, true, ◌&&◌, List, [], ◌∷◌, Option, Some, None, refl, sym, arith}
+use Rattle.std.specs.Prelude.{option_and_then, eqb}
+use Rattle.std.proofs.lemmas.Bool.{true≢false, and_parts}
 use Rattle.lazy_rec.specs.declared.records.Rec.{Rec}
 use Rattle.lazy_rec.specs.declared.states.SuspState.{SuspState}
-use Rattle.lazy_rec.specs.States.{given_up}
-use Rattle.lazy_rec.specs.Named.{is_pending, at_record}
+use Rattle.lazy_rec.specs.Named.{is_pending}
 use Rattle.lazy_rec.specs.Tests.{is_some_and}
-use Rattle.lazy_rec.specs.Units.{family_of}
 use Rattle.heap_store.specs.declared.jobs.Cursor.{Cursor}
 use Rattle.heap_store.specs.World.{World, recs, holds, state_at, value_at, is_published}
 use Rattle.heap_store.specs.Growth.{Grows}
 use Rattle.heap_store.specs.Lawful.{walk, rest_of}
 use Rattle.heap_store.specs.Jobs.{IsWork, cursor_fits, cursor_fits_record, first_cells}
-use Rattle.heap_store.proofs.GrowthLaws.{at_true, at_up, state_there, rec_there, grows_refl, grows_trans, value_up, holds_up, or_up, same_up}
+use Rattle.heap_store.proofs.GrowthLaws.{at_true, state_there, rec_there, value_up, holds_up, or_up, same_up}
 use Rattle.force_engine.specs.declared.stack.Frame.{Frame}
-use Rattle.force_engine.specs.Stacked.{origin_at, IsBelow, Rises}
+use Rattle.force_engine.specs.Stacked.{origin_at, Rises}
 use Rattle.force_engine.specs.Forced.{attempts_of, Rose}
 
 -- ---- attempts
@@ -28,9 +24,9 @@ attempts_grow {a} {b} g p = go (state_at a p) refl
     go : (o : Option SuspState) → state_at a p ≡ o → attempts_of o ≤ attempts_of (state_at b p)
     go None e = omega arith
     go (Some s) e =
-      let r = rec_there a p s e in
-      let t = state_there b p r.0 (g.records p r.0 r.1) in
-      rw t.1 (g.given_up p s t.0 e t.1)
+        let r = rec_there a p s e in
+        let t = state_there b p r.0 (g.records p r.0 r.1) in
+        rw t.1 (g.given_up p s t.0 e t.1)
 
 pub Rose-before : {a b : World} (c : World) (p : ℕ) → Grows a b → Rose b c p → Rose a c p
 Rose-before c p g r = omega (arith, attempts_grow g p)
@@ -45,18 +41,18 @@ published w p r e = rw e refl
 
 pub origin_at-grows : {a b : World} → Grows a b → (p : ℕ) → is_published (recs a) p ≡ true → origin_at b p ≡ origin_at a p
 origin_at-grows {a} {b} g p h =
-  let r = at_true (λ _. true) (recs a p) h in
-  let e = r.1 in
-  let e' = g.records p r.0 e in
-  rw (e, e') refl
+    let r = at_true (λ _. true) (recs a p) h in
+    let e = r.1 in
+    let e' = g.records p r.0 e in
+    rw (e, e') refl
 
 pub Rises-grows : {a b : World} → Grows a b → (fs : List Frame) → Rises a fs → Rises b fs
 Rises-grows g [] h = tt
 Rises-grows {a} {b} g (f ∷ []) h = (holds_up a b g f.place.0 _ _ (λ r. same_up) h.0, tt, tt)
 Rises-grows {a} {b} g (f ∷ f' ∷ fs) h =
-  let e = origin_at-grows g f.place.0 h.0 in
-  let e' = origin_at-grows g f'.place.0 h.2.0 in
-  (holds_up a b g f.place.0 _ _ (λ r. same_up) h.0, rw (e, e') h.1, Rises-grows g (f' ∷ fs) h.2)
+    let e = origin_at-grows g f.place.0 h.0 in
+    let e' = origin_at-grows g f'.place.0 h.2.0 in
+    (holds_up a b g f.place.0 _ _ (λ r. same_up) h.0, rw (e, e') h.1, Rises-grows g (f' ∷ fs) h.2)
 
 -- ---- cursors
 

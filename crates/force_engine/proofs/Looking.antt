@@ -1,5 +1,5 @@
 -- What a place shows.
-use Rattle.std.proofs.Common.{◌≡◌, ℕ, Bool, true, false, cond, Option, Some, None, refl, sym, ap, ◌∙◌}
+use Rattle.std.proofs.Common.{◌≡◌, true, false, cond, Option, Some, None, refl}
 use Rattle.std.specs.Prelude.{option_map}
 use Rattle.lazy_rec.specs.declared.places.Ref.{Ref}
 use Rattle.lazy_rec.specs.declared.records.Rec.{Rec}
@@ -7,10 +7,8 @@ use Rattle.lazy_rec.specs.declared.states.SuspState.{SuspState}
 use Rattle.lazy_rec.specs.Named.{is_pending}
 use Rattle.heap_store.specs.declared.nodes.Node.{Node}
 use Rattle.heap_store.specs.World.{World, recs, state_at, node_at}
-use Rattle.force_engine.specs.declared.shown.Peek.{Peek}
 use Rattle.force_engine.specs.declared.shown.Peek.TheVariants as peeks
 use Rattle.force_engine.specs.Shown.{shown_of, shown_at}
-
 
 pub shown_value : (w : World) (s : Ref) (r : Rec) → recs w s.0 ≡ Some r → is_pending r ≡ false → shown_at w s ≡ Some (peeks.Value s)
 shown_value w s r e p = go (node_at w s.0) e

@@ -1,5 +1,5 @@
 -- What a place shows to a look at it.
-use Rattle.std.specs.Prelude.{cond, Option, Some, option_map}
+use Rattle.std.specs.Prelude.{cond, Option, option_map}
 use Rattle.lazy_rec.specs.declared.places.Ref.{Ref}
 use Rattle.lazy_rec.specs.declared.states.SuspState.{SuspState}
 use Rattle.lazy_rec.specs.declared.states.SuspState.TheVariants as states

@@ -5,7 +5,7 @@ use Rattle.lazy_rec.specs.Units.{family_of}
 use Rattle.heap_store.specs.declared.claims.HeldClaim.{HeldClaim}
 use Rattle.heap_store.specs.World.{World, recs, is_published}
 use Rattle.heap_store.specs.Growth.{Grows}
-use Rattle.heap_store.specs.Hand.{Hand, fresh_claim}
+use Rattle.heap_store.specs.Hand.{fresh_claim}
 use Rattle.heap_store.specs.View.{View, SameRows, unforced}
 use Rattle.force_engine.specs.declared.stack.Frame.{Frame}
 

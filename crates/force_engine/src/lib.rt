@@ -9,5 +9,5 @@ pub mod stack;
 
 pub use looks::peek;
 pub use shown::Peek;
-pub use solo::{force_solo, GiveUp};
+pub use solo::{GiveUp, force_solo};
 pub use stack::{Frame, Stack};

@@ -31,7 +31,12 @@ fn give_back<C: Claims>(heap: &mut C, stack: &mut Stack, newest: Frame)
 }
 
 /// Claims a need of the newest claim, which then waits for it.
-fn open_need<C: Claims>(heap: &mut C, stack: &mut Stack, newest: Frame, t: Ref) -> Result<Frame, GiveUp>
+fn open_need<C: Claims>(
+    heap: &mut C,
+    stack: &mut Stack,
+    newest: Frame,
+    t: Ref,
+) -> Result<Frame, GiveUp>
     requires stacked { IsStacked (C.view heap.old) (newest ∷ reverse stack.old) }
     requires pending { holds (recs (C.view heap.old).seen) t.0 is_pending ≡ true }
     requires lower { origin_at (C.view heap.old).seen t.0 < origin_at (C.view heap.old).seen newest.place.0 }
@@ -62,7 +67,13 @@ fn open_need<C: Claims>(heap: &mut C, stack: &mut Stack, newest: Frame, t: Ref) 
 }
 
 /// Builds and completes the newest claim, whose needs are done.
-fn finish<C: Claims, J: Jobs>(heap: &mut C, jobs: &J, stack: &mut Stack, newest: Frame, nodes: u32) -> Result<Ref, GiveUp>
+fn finish<C: Claims, J: Jobs>(
+    heap: &mut C,
+    jobs: &J,
+    stack: &mut Stack,
+    newest: Frame,
+    nodes: u32,
+) -> Result<Ref, GiveUp>
     requires stacked { IsStacked (C.view heap.old) (newest ∷ reverse stack.old) }
     requires work { IsWork (J.does jobs.now) (C.view heap.old).seen newest.place.0 }
     requires cursor { cursor_fits (C.view heap.old).seen newest.place.0 newest.cursor ≡ true }
@@ -90,7 +101,12 @@ fn finish<C: Claims, J: Jobs>(heap: &mut C, jobs: &J, stack: &mut Stack, newest:
 }
 
 /// Forces a claimed suspension, the only claim in hand.
-fn run<C: Claims, J: Jobs>(heap: &mut C, jobs: &J, stack: &mut Stack, first: Frame) -> Result<Ref, GiveUp>
+fn run<C: Claims, J: Jobs>(
+    heap: &mut C,
+    jobs: &J,
+    stack: &mut Stack,
+    first: Frame,
+) -> Result<Ref, GiveUp>
     requires stacked { IsStacked (C.view heap.old) (first ∷ []) }
     requires work { IsWork (J.does jobs.now) (C.view heap.old).seen first.place.0 }
     requires cursor { first.cursor.passed ≡ 0 }
@@ -118,7 +134,12 @@ fn run<C: Claims, J: Jobs>(heap: &mut C, jobs: &J, stack: &mut Stack, first: Fra
 
 /// The place of the value of `s`: `s` itself where it is a value, else the one place that the suspension keeps once it is
 /// done. It always returns. After a refusal each claim was given back.
-pub fn force_solo<C: Claims, J: Jobs>(heap: &mut C, jobs: &J, stack: &mut Stack, s: Ref) -> Result<Ref, GiveUp>
+pub fn force_solo<C: Claims, J: Jobs>(
+    heap: &mut C,
+    jobs: &J,
+    stack: &mut Stack,
+    s: Ref,
+) -> Result<Ref, GiveUp>
     requires there { IsForcible (J.does jobs.now) (C.view heap.old).seen s.0 }
     requires alone { (C.view heap.old).about.alone ≡ true }
     requires idle { (C.view heap.old).hand.claims ≡ [] }
@@ -139,10 +160,15 @@ pub fn force_solo<C: Claims, J: Jobs>(heap: &mut C, jobs: &J, stack: &mut Stack,
         return Ok(s);
     }
     match heap.claim(s) {
-        Claim::Won => run(heap, jobs, stack, Frame {
-            place: s,
-            cursor: Cursor::new(),
-        }),
+        Claim::Won => run(
+            heap,
+            jobs,
+            stack,
+            Frame {
+                place: s,
+                cursor: Cursor::new(),
+            },
+        ),
         Claim::Done(place) => Ok(place),
         Claim::Busy => unreachable!(),
     }

@@ -62,3 +62,22 @@ impl Stack {
         self.frames.pop()
     }
 }
+
+#[cfg(test)]
+mod tests {
+    use super::*;
+    use std::test::Fail;
+
+    #[test]
+    fn opens(rt: HostRuntime) -> Result<(), Fail> {
+        let mut stack = Stack::open(rt.alloc())?;
+        for place in 0..65 {
+            stack.push(Frame {
+                place: Ref(place),
+                cursor: Cursor::new(),
+            })?;
+        }
+        assert_eq!(rt; stack.pop().map(|frame| frame.place), Some(Ref(64)));
+        Ok(())
+    }
+}

@@ -1,7 +1,4 @@
-use Rattle.std.proofs.Common.{◌≡◌, ◌∙◌, sym, true, Some}
-use Rattle.lazy_rec.specs.Named.{is_pending}
-use Rattle.lazy_rec.specs.declared.states.SuspState.{SuspState}
-use Rattle.heap_store.specs.World.{recs}
+use Rattle.std.proofs.Common.{◌∙◌, sym}
 use Rattle.heap_store.proofs.Steps.{Quiet_trans}
 use Rattle.force_engine.proofs.Looking.{shown_value, shown_pending}
 use Rattle.force_engine.proofs.looks.peek.Goals as goal

@@ -14,16 +14,16 @@ start g c = begun _ _ _ c.args.s c.requires.alone c.requires.idle c.read.ensures
 
 pub run-requires-clause-work : goal.run-requires-clause-work
 run-requires-clause-work g c =
-  let k = goal.at.run-requires-clause-work g c in
-  IsWork-grows (start g k.After-new).grows (g.J.Jobs.does c.args.jobs.now) c.args.s.0 (forcible_work (g.J.Jobs.does c.args.jobs.now) (g.C.Heap.view c.args.heap.now).seen c.args.s.0 c.read.result c.requires.there c.read.ensures.rec (pending g k.After-new))
+    let k = goal.at.run-requires-clause-work g c in
+    IsWork-grows (start g k.After-new).grows (g.J.Jobs.does c.args.jobs.now) c.args.s.0 (forcible_work (g.J.Jobs.does c.args.jobs.now) (g.C.Heap.view c.args.heap.now).seen c.args.s.0 c.read.result c.requires.there c.read.ensures.rec (pending g k.After-new))
 
 pub returns-in-Won-clause-forced : goal.returns-in-Won-clause-forced
 returns-in-Won-clause-forced g c = forced (g.C.Heap.view c.run.new.heap) c.run.result c.requires.idle (start g (goal.at.returns-in-Won-clause-forced g c).After-new) c.run.ensures.passed c.run.ensures.idle
 
 pub returns-in-Won-clause-refused : goal.returns-in-Won-clause-refused
 returns-in-Won-clause-refused g c =
-  let k = (goal.at.returns-in-Won-clause-refused g c).After-new in
-  on_err c.run.result (undone _ _ _ c.args.s c.requires.alone c.requires.idle c.read.ensures.quiet c.in-Won.ensures c.read.result (g.met.C.Heap.lawful c.claim.new.self) c.read.ensures.rec (pending g k) (record { place = c.args.s; cursor = c.new.result }) refl)
+    let k = (goal.at.returns-in-Won-clause-refused g c).After-new in
+    on_err c.run.result (undone _ _ _ c.args.s c.requires.alone c.requires.idle c.read.ensures.quiet c.in-Won.ensures c.read.result (g.met.C.Heap.lawful c.claim.new.self) c.read.ensures.rec (pending g k) (record { place = c.args.s; cursor = c.new.result }) refl)
 
 pub returns-in-Won-clause-gave_up : goal.returns-in-Won-clause-gave_up
 returns-in-Won-clause-gave_up g c = given_up_later (g.C.Heap.view c.run.new.heap) c.args.s.0 c.run.result (start g (goal.at.returns-in-Won-clause-gave_up g c).After-new) c.run.ensures.gave_up

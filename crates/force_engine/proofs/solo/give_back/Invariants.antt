@@ -1,5 +1,4 @@
-use Rattle.std.proofs.Common.{◌≡◌, ◌∷◌, length, reverse}
-use Rattle.heap_store.specs.View.{IsLawfulView}
+use Rattle.std.proofs.Common.{◌∷◌, length, reverse}
 use Rattle.force_engine.proofs.Giving.{Backing}
 use Rattle.force_engine.proofs.solo.give_back.Given as goal
 

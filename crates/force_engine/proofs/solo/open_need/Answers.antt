@@ -9,5 +9,5 @@ unreachable-requires g c = no_other_answer _ c.args.t c.claim.result c.requires.
 
 pub returns-clause-stacked : goal.returns-clause-stacked
 returns-clause-stacked g c =
-  let e : reverse c.push.new.self ≡ c.args.newest ∷ reverse c.args.stack.now = ap reverse c.in-Ok.ensures.ok ∙ reverse-push c.args.stack.now c.args.newest in
-  rw e (opened (record { place = c.args.t; cursor = c.new.result }) c.requires.stacked (pending_published (g.C.Heap.view c.args.heap.now).seen c.args.t.0 c.requires.pending) c.requires.lower c.in-Won.ensures).stacked
+    let e : reverse c.push.new.self ≡ c.args.newest ∷ reverse c.args.stack.now = ap reverse c.in-Ok.ensures.ok ∙ reverse-push c.args.stack.now c.args.newest in
+    rw e (opened (record { place = c.args.t; cursor = c.new.result }) c.requires.stacked (pending_published (g.C.Heap.view c.args.heap.now).seen c.args.t.0 c.requires.pending) c.requires.lower c.in-Won.ensures).stacked
