@@ -1,5 +1,5 @@
 -- The words of operations and kinds, by the tables of the code. Both tables follow the order of the types.
-use Rattle.std.specs.Prelude.{ℕ, List, [], ◌∷◌, Option, Some, None, if◌then◌else◌, slice_get}
+use Rattle.std.specs.Prelude.{ℕ, List, [], ◌∷◌, Option, Some, None, if◌then◌else◌, slice_get, map}
 use Rattle.std.specs.Str.{bytes_eq}
 use Rattle.lazy_rec.specs.declared.events.Kind.{Kind}
 use Rattle.lazy_rec.specs.declared.events.Op.{Op}
@@ -9,26 +9,29 @@ use Rattle.script_text.specs.declared.words.Form.{Form}
 use Rattle.script_text.specs.declared.words.Form.TheVariants as forms
 use Rattle.script_text.specs.declared.words.TheConstants.{OPERATIONS, KINDS}
 
--- a table has a word and what it stands for in each row
-abbrev pub Row : Type 0 → Type 0
-Row X = (record { now : List ℕ }) × X
-
--- what a word stands for
-abbrev pub look : {X : Type 0} → List ℕ → List (Row X) → Option X
+-- what a word stands for in a table of words
+abbrev pub look : {X : Type 0} → List ℕ → List (List ℕ × X) → Option X
 look w [] = None
-look w (row ∷ rows) = if bytes_eq w row.0.now then Some row.1 else look w rows
+look w (row ∷ rows) = if bytes_eq w row.0 then Some row.1 else look w rows
+
+-- the tables, as contracts see them
+abbrev pub operations : List (List ℕ × Form)
+operations = map (λ row. (row.0.now, row.1)) OPERATIONS
+
+abbrev pub kinds : List (List ℕ × Kind)
+kinds = map (λ row. (row.0.now, row.1)) KINDS
 
 abbrev pub form_of : List ℕ → Option Form
-form_of w = look w OPERATIONS
+form_of w = look w operations
 
 abbrev pub kind_named : List ℕ → Option Kind
-kind_named w = look w KINDS
+kind_named w = look w kinds
 
-abbrev pub word_in : {X : Type 0} → Option (Row X) → List ℕ
+abbrev pub word_in : {X : Type 0} → Option (List ℕ × X) → List ℕ
 word_in None = []
-word_in (Some row) = row.0.now
+word_in (Some row) = row.0
 
-abbrev pub form_in : Option (Row Form) → Form
+abbrev pub form_in : Option (List ℕ × Form) → Form
 form_in None = forms.New
 form_in (Some row) = row.1
 
@@ -64,11 +67,11 @@ op_number ops.Upto = 26
 
 -- the word of an operation, and what follows it
 abbrev pub op_word : Op → List ℕ
-op_word o = word_in (slice_get OPERATIONS (op_number o))
+op_word o = word_in (slice_get operations (op_number o))
 
 abbrev pub op_form : Op → Form
-op_form o = form_in (slice_get OPERATIONS (op_number o))
+op_form o = form_in (slice_get operations (op_number o))
 
 -- the word of a kind
 abbrev pub kind_word : Kind → List ℕ
-kind_word k = word_in (slice_get KINDS (kind_number k))
+kind_word k = word_in (slice_get kinds (kind_number k))

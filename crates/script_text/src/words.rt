@@ -1,8 +1,8 @@
 //! The words of operations and kinds.
-ghost use Rattle.std.specs.Prelude.{◌≡◌};
+ghost use Rattle.std.specs.Prelude.{◌≡◌, map};
 ghost use Rattle.std.specs.Str.{bytes_eq};
 ghost use Rattle.lazy_rec.specs.Kinds.{belongs, same_kind};
-ghost use Rattle.script_text.specs.Words.{form_of, kind_named, op_number, op_word, op_form, kind_word};
+ghost use Rattle.script_text.specs.Words.{look, form_of, kind_named, op_number, op_word, op_form, kind_word};
 
 use lazy_rec::{Kind, Op};
 
@@ -69,28 +69,30 @@ pub fn is(word: &[u8], text: &str) -> bool
     word == text.as_bytes()
 }
 
+// What a word stands for in a table.
+fn look_up<X: Copy>(word: &[u8], rows: &[(&'static str, X)]) -> Option<X>
+    ensures { result ≡ look word.now (map (λ row. (row.0.now, row.1)) rows.now) }
+{
+    for (text, value) in rows {
+        if is(word, text) {
+            return Some(*value);
+        }
+    }
+    None
+}
+
 // The operation of a word, and what follows it.
 pub fn named_form(word: &[u8]) -> Option<Form>
     ensures { result ≡ form_of word.now }
 {
-    for (text, form) in &OPERATIONS {
-        if is(word, text) {
-            return Some(*form);
-        }
-    }
-    None
+    look_up(word, &OPERATIONS)
 }
 
 // The kind of a word.
 pub fn named_kind(word: &[u8]) -> Option<Kind>
     ensures { result ≡ kind_named word.now }
 {
-    for (text, kind) in &KINDS {
-        if is(word, text) {
-            return Some(*kind);
-        }
-    }
-    None
+    look_up(word, &KINDS)
 }
 
 // The number of an operation, from 0.
