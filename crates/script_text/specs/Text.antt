@@ -1,5 +1,5 @@
 -- Which bytes are the text of which events, which line is the first faulty one, and the canonical text of events.
-use Rattle.std.specs.Prelude.{◌≡◌, ℕ, ◌+◌, ◌<◌, Bool, ◌&&◌, true, false, List, [], ◌∷◌, ◌++◌, length, slice_get, drop, Ok, Err, Some, ◌==◌, if◌then◌else◌, codes, decimal, flat_map, ◌⊎◌}
+use Rattle.std.specs.Prelude.{◌≡◌, ℕ, suc, ◌+◌, ◌<◌, Bool, ◌&&◌, true, false, List, [], ◌∷◌, ◌++◌, length, slice_get, drop, Ok, Err, Some, ◌==◌, if◌then◌else◌, codes, decimal, flat_map, ◌⊎◌}
 use Rattle.std.specs.List.{join_with_byte}
 use Rattle.std.specs.Str.{bytes_eq}
 use Rattle.lazy_rec.specs.declared.events.Kind.{Kind}
@@ -88,12 +88,13 @@ pub record IsWritable (events : List Event) : Type 0 where
 -- an event may stand next after these
 pub record Follows (before : List Event) (e : Event) : Type 0 where
   pub room : length before < 200000
-  pub fits : is_event_at (event_of before) (length before + 1) e ≡ true
+  pub fits : is_event_at (event_of before) (suc (length before)) e ≡ true
   pub small : e.arg < 4294967296
 
 -- the kinds of these events, in order
-abbrev pub KnowsKinds : List Event → List Kind → Type 0
-KnowsKinds events kinds = (i : ℕ) → slice_get kinds i ≡ kind_of (event_of events) (i + 1)
+pub record AreKindsOf (events : List Event) (kinds : List Kind) : Type 0 where
+  pub many : length kinds ≡ length events
+  pub each : (i : ℕ) → i < length events → slice_get kinds i ≡ kind_of (event_of events) (suc i)
 
 -- the word of the kind that `new` makes
 abbrev pub new_word : Op → List ℕ

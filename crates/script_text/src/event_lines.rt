@@ -1,8 +1,7 @@
 //! The event of a line.
-ghost use Rattle.std.specs.Prelude.{◌≡◌, IfOk};
+ghost use Rattle.std.specs.Prelude.{◌≡◌};
 ghost use Rattle.script_text.specs.Lines.{words_of};
 ghost use Rattle.script_text.specs.Events.{kind_before, on_base, on_two, new_event, event_with, event_at};
-ghost use Rattle.script_text.specs.Text.{Follows};
 
 use crate::lines::{number, one_word, two_words};
 use crate::model::Reason;
@@ -102,8 +101,7 @@ fn event_with(before: &Script, form: Form, rest: &[u8]) -> Result<Event, Reason>
 /// The event of a line with this first word and this rest.
 #[tactic(auto, unfolding(crate::specs::Events::event_at))]
 pub fn event_at(before: &Script, first: &[u8], rest: &[u8]) -> Result<Event, Reason>
-    ensures event { result ≡ event_at before.now first.now (words_of rest.now) }
-    ensures next { IfOk result (Follows before.now) }
+    ensures { result ≡ event_at before.now first.now (words_of rest.now) }
 {
     if before.count() >= 200_000 {
         return Err(Reason::TooMany);

@@ -1,9 +1,9 @@
 //! A script as a value, and its reader.
-ghost use Rattle.std.specs.Prelude.{◌≡◌, ℕ, ◌+◌, ◌≤◌, ◌⊎◌, ◌++◌, ◌∷◌, [], List, length, IfOk, OnOk, Ok, Err, Some, slice_get};
+ghost use Rattle.std.specs.Prelude.{◌≡◌, ℕ, suc, ◌≤◌, ◌⊎◌, ◌++◌, ◌∷◌, [], List, length, IfOk, OnOk, Ok, Err, Some, slice_get};
 ghost use Rattle.lazy_rec.specs.History.{event_of, kind_of};
 ghost use Rattle.lazy_rec.specs.declared.events.Event.{Event};
 ghost use Rattle.script_text.specs.Lines.{words_of};
-ghost use Rattle.script_text.specs.Text.{IsText, IsFirstFault, IsWritable, Follows, KnowsKinds, is_header, is_comment};
+ghost use Rattle.script_text.specs.Text.{IsText, IsFirstFault, IsWritable, Follows, AreKindsOf, is_header, is_comment};
 ghost use Rattle.script_text.specs.declared.model.Reason.{Reason};
 ghost use Rattle.script_text.specs.declared.model.ScriptFault.TheVariants.{Line, NoMemory};
 
@@ -27,7 +27,7 @@ impl Model for Script {
 
     ghost view = { λ s. s.events.items };
 
-    ghost invariant = { λ s. IsWritable s.events.items × KnowsKinds s.events.items s.kinds.items };
+    ghost invariant = { λ s. IsWritable s.events.items × AreKindsOf s.events.items s.kinds.items };
 }
 
 impl Script {
@@ -68,7 +68,7 @@ impl Script {
     // The kind that a next event has.
     fn kind_made(&self, event: Event) -> Kind
         requires { Follows self.now event }
-        ensures { Some result ≡ kind_of (event_of (self.now ++ event ∷ [])) (length self.now + 1) }
+        ensures { Some result ≡ kind_of (event_of (self.now ++ event ∷ [])) (suc (length self.now)) }
     {
         if let Op::New(kind) = event.op {
             return kind;
