@@ -7,6 +7,8 @@ mod lines;
 mod model;
 mod print;
 mod script;
+#[cfg(test)]
+mod tests;
 mod words;
 
 pub use model::{Reason, ScriptFault};

@@ -29,10 +29,9 @@ fn push_text(out: &mut Vec<u8>, text: &str) -> Result<(), AllocError>
 }
 
 // A space and a number.
-fn push_number(out: &mut Vec<u8>, n: u32) -> Result<(), AllocError>
+fn push_number(out: &mut Vec<u8>, buffer: &mut Buffer, n: u32) -> Result<(), AllocError>
     ensures { OnOk result (out.new.items ≡ out.old.items ++ 32 ∷ decimal n) }
 {
-    let mut buffer = Buffer::new();
     out.push(b' ')?;
     out.extend_from_slice(buffer.format(n).as_bytes())?;
     Ok(())
@@ -49,7 +48,7 @@ fn new_text(op: Op) -> &'static str
 }
 
 // The line of an event.
-fn push_event(out: &mut Vec<u8>, event: Event) -> Result<(), AllocError>
+fn push_event(out: &mut Vec<u8>, buffer: &mut Buffer, event: Event) -> Result<(), AllocError>
     ensures { OnOk result (out.new.items ≡ out.old.items ++ line_text (event_words event)) }
 {
     let (word, form) = op_row(event.op);
@@ -59,14 +58,14 @@ fn push_event(out: &mut Vec<u8>, event: Event) -> Result<(), AllocError>
             push_text(out, " ")?;
             push_text(out, new_text(event.op))?;
         }
-        Form::Base(_) => push_number(out, event.base)?,
+        Form::Base(_) => push_number(out, buffer, event.base)?,
         Form::Argument(_) => {
-            push_number(out, event.base)?;
-            push_number(out, event.arg)?;
+            push_number(out, buffer, event.base)?;
+            push_number(out, buffer, event.arg)?;
         }
         Form::Other(_) => {
-            push_number(out, event.base)?;
-            push_number(out, event.other)?;
+            push_number(out, buffer, event.base)?;
+            push_number(out, buffer, event.other)?;
         }
     }
     push_text(out, "\n")?;
@@ -77,9 +76,10 @@ fn text_of(alloc: Global, events: &[Event]) -> Result<Vec<u8>, AllocError>
     ensures { IfOk result (λ v. v.items ≡ canonical_text events.now) }
 {
     let mut out = Vec::new(alloc);
+    let mut buffer = Buffer::new();
     push_text(&mut out, "lazy 1\n")?;
     for event in events {
-        push_event(&mut out, *event)?;
+        push_event(&mut out, &mut buffer, *event)?;
     }
     Ok(out)
 }
