@@ -120,6 +120,7 @@ event_at_end es e f i h =
   where
     last : i ≡ suc (length es) → f ≡ e
     last same = let found = subst (λ n. event_of (es ++ e ∷ []) n ≡ Some f) same h in let is = event_of-last es e [] in cc
+
     past : (j : ℕ) → event_of (es ++ e ∷ []) j ≡ Some f → suc (length es) < j → ⊥
     past zero g l = absurd (omega arith)
     past (suc k) g l = let none = slice_get_past (es ++ e ∷ []) k (omega (arith, length-append es (e ∷ []))) in cc
@@ -139,12 +140,13 @@ writable_more es e h f =
   where
     agree : (n : ℕ) → n ≤ suc (length es) → (p : ℕ) → p < n → event_of es p ≡ event_of (es ++ e ∷ []) p
     agree n l p m = sym (event_of-append es (e ∷ []) p (omega arith))
+
     stands : (i : ℕ) (d : Event) → ((i ≤ length es) × (event_of es i ≡ Some d)) ⊎ ((i ≡ suc (length es)) × (d ≡ e)) → is_event_at (event_of (es ++ e ∷ [])) i d ≡ true
     stands i d (inl old) = fits_agree (event_of es) (event_of (es ++ e ∷ [])) i d (agree i (let l = old.0 in omega arith)) (h.script.each i d old.1)
     stands i d (inr new) =
         subst (λ n. is_event_at (event_of (es ++ e ∷ [])) n d ≡ true) (sym new.0)
-            (subst (λ x. is_event_at (event_of (es ++ e ∷ [])) (suc (length es)) x ≡ true) (sym new.1)
-              (fits_agree (event_of es) (event_of (es ++ e ∷ [])) (suc (length es)) e (agree (suc (length es)) (omega arith)) f.fits))
+        (subst (λ x. is_event_at (event_of (es ++ e ∷ [])) (suc (length es)) x ≡ true) (sym new.1)
+        (fits_agree (event_of es) (event_of (es ++ e ∷ [])) (suc (length es)) e (agree (suc (length es)) (omega arith)) f.fits))
 
 pub writable_none : IsWritable []
 writable_none =
@@ -188,4 +190,4 @@ kinds_more es ks e k h is =
     last : (i : ℕ) → i ≡ length es → slice_get (ks ++ k ∷ []) i ≡ kind_of (event_of (es ++ e ∷ [])) (suc i)
     last i same =
         subst (λ n. slice_get (ks ++ k ∷ []) n ≡ kind_of (event_of (es ++ e ∷ [])) (suc n)) (sym same)
-            (subst (λ n. slice_get (ks ++ k ∷ []) n ≡ kind_of (event_of (es ++ e ∷ [])) (suc (length es))) h.many (slice_get-last ks k [] ∙ is))
+        (subst (λ n. slice_get (ks ++ k ∷ []) n ≡ kind_of (event_of (es ++ e ∷ [])) (suc (length es))) h.many (slice_get-last ks k [] ∙ is))

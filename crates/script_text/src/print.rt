@@ -18,8 +18,7 @@ pub fn canonical_texts()
     ensures script { (bytes : List ℕ) (events : List Event) → IsText bytes events → IsWritable events }
     ensures only { (bytes : List ℕ) (events read : List Event) → IsWritable events → bytes ≡ canonical_text events → IsText bytes read → read ≡ events }
     ensures no_fault { (bytes : List ℕ) (events : List Event) (line : ℕ) (reason : Reason) → IsWritable events → bytes ≡ canonical_text events → IsFirstFault bytes line reason → ⊥ }
-{
-}
+{}
 
 fn push_text(out: &mut Vec<u8>, text: &str) -> Result<(), AllocError>
     ensures { OnOk result (out.new.items ≡ out.old.items ++ text.now) }

@@ -106,8 +106,7 @@ pub fn one_reading()
     ensures one { (bytes : List ℕ) (events others : List Event) → IsText bytes events → IsText bytes others → events ≡ others }
     ensures none { (bytes : List ℕ) (events : List Event) (line : ℕ) (reason : Reason) → IsText bytes events → IsFirstFault bytes line reason → ⊥ }
     ensures first { (bytes : List ℕ) (l m : ℕ) (r s : Reason) → IsFirstFault bytes l r → IsFirstFault bytes m s → (l ≡ m) × (r ≡ s) }
-{
-}
+{}
 
 // Whether a line is the header.
 fn is_header(line: &[u8]) -> bool

@@ -111,9 +111,18 @@ const READ: [(&str, &str); 8] = [
     ("lazy 1\n", "lazy 1\n"),
     ("lazy 1", "lazy 1\n"),
     ("  lazy   1  \n\n", "lazy 1\n"),
-    ("lazy 1\n#\n  # new seq\n   \n#new heap\nnew  bankq ", "lazy 1\nnew bankq\n"),
-    ("lazy 1\nnew heap\n insert 0000000001  4294967295", "lazy 1\nnew heap\ninsert 1 4294967295\n"),
-    ("lazy 1\nnew seq\npushl 01 0000000000\n#", "lazy 1\nnew seq\npushl 1 0\n"),
+    (
+        "lazy 1\n#\n  # new seq\n   \n#new heap\nnew  bankq ",
+        "lazy 1\nnew bankq\n",
+    ),
+    (
+        "lazy 1\nnew heap\n insert 0000000001  4294967295",
+        "lazy 1\nnew heap\ninsert 1 4294967295\n",
+    ),
+    (
+        "lazy 1\nnew seq\npushl 01 0000000000\n#",
+        "lazy 1\nnew seq\npushl 1 0\n",
+    ),
     (
         "lazy 1\nnew stream\nnew bankq\nnew rtq\nnew heap\nnew seq\nnew prio\nnew ord\nnew cat\n",
         "lazy 1\nnew stream\nnew bankq\nnew rtq\nnew heap\nnew seq\nnew prio\nnew ord\nnew cat\n",
@@ -144,7 +153,11 @@ fn printed(alloc: Global, bytes: &[u8]) -> Option<Vec<u8>> {
 #[test]
 fn faulty_texts_are_refused(rt: HostRuntime) {
     for (text, line, reason) in &FAULTY {
-        assert_eq!(rt; fault_of(rt.alloc(), text.as_bytes()), (*line, *reason), "{text}");
+        assert_eq!(rt;
+            fault_of(rt.alloc(), text.as_bytes()),
+            (*line, *reason),
+            "{text}"
+        );
     }
 }
 

@@ -162,7 +162,10 @@ pub fn has(kind: Kind, op: Op) -> bool
         Op::Delmin => matches!(kind, Kind::Heap),
         Op::Meld => matches!(kind, Kind::Heap | Kind::Prio),
         Op::Max | Op::Delmax => matches!(kind, Kind::Prio),
-        Op::Pushl | Op::Pushr | Op::Popl | Op::Popr | Op::First | Op::Last => matches!(kind, Kind::Seq),
+        Op::Pushl | Op::Pushr | Op::Popl | Op::Popr | Op::First | Op::Last => matches!(
+            kind,
+            Kind::Seq
+        ),
         Op::Nth | Op::Take | Op::Drop | Op::Concat => matches!(kind, Kind::Seq),
         Op::Has | Op::Remove | Op::Upto => matches!(kind, Kind::Ord),
     }

@@ -24,7 +24,7 @@ loop-line-preserved c =
 faulty : (c : goal.After-drop-script-inside-in-Err) → IsFirstFault c.args.bytes.now (c.loop-line.number + 1) c.in-Err.reason
 faulty c =
     fault_read c.args.bytes.now c.in-Some.first.now (lines_of c.in-Some.after.now) (c.loop-line.number + 1) c.in-Err.reason c.in-Some.ensures.line (sym c.is_header.ensures ∙ c.if-not-is_header.false)
-        (reads_fault (body c.args.bytes.now) c.loop-line.script c.in-Err.reason (c.loop-line.number + 1) c.in-Some-next_line.line.now c.in-Some-next_word.word.now (words_of c.in-Some-next_word.words.now) (lines_of c.in-Some-next_line.after.now) (lines_of c.loop-line.rest.now) c.in-Some-next_line.ensures.line c.in-Some-next_word.ensures (sym c.is_comment.ensures ∙ c.if-is_comment.false) (sym c.in-Err.ensures) c.loop-line.invariant.reads)
+    (reads_fault (body c.args.bytes.now) c.loop-line.script c.in-Err.reason (c.loop-line.number + 1) c.in-Some-next_line.line.now c.in-Some-next_word.word.now (words_of c.in-Some-next_word.words.now) (lines_of c.in-Some-next_line.after.now) (lines_of c.loop-line.rest.now) c.in-Some-next_line.ensures.line c.in-Some-next_word.ensures (sym c.is_comment.ensures ∙ c.if-is_comment.false) (sym c.in-Err.ensures) c.loop-line.invariant.reads)
 
 pub returns-in-Err-clause-each_text : goal.returns-in-Err-clause-each_text
 returns-in-Err-clause-each_text c events text = absurd (script_or_fault c.args.bytes.now events (c.loop-line.number + 1) c.in-Err.reason text (faulty c))
