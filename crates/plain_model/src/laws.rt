@@ -1,0 +1,1 @@
+//! What the effects mean, in the subject's words.
