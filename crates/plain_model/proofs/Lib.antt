@@ -1,3 +1,6 @@
 pub mod ByPlaces
 pub mod RisingLists
 pub mod Growth
+pub mod Sizes
+pub mod NamedLists
+pub mod RunSteps
