@@ -4,3 +4,4 @@ pub mod Growth
 pub mod Sizes
 pub mod NamedLists
 pub mod RunSteps
+pub mod LawLemmas

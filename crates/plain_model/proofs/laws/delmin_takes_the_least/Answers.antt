@@ -1,0 +1,6 @@
+use Rattle.plain_model.proofs.LawLemmas.{head-after_snocs, least-put_back, parts-whole, upto-above, meld-comm}
+use Rattle.plain_model.proofs.RisingLists.{is_rising-IsNonDecreasing}
+use Rattle.plain_model.proofs.laws.delmin_takes_the_least.Goals as goal
+
+pub returns : goal.returns
+returns c = least-put_back c.args.base.now c.args.least c.requires.rising c.requires.few c.requires.told
