@@ -5,3 +5,4 @@ pub mod Sizes
 pub mod NamedLists
 pub mod RunSteps
 pub mod LawLemmas
+pub mod Scripts

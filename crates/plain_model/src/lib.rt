@@ -7,4 +7,7 @@ mod runs;
 
 pub mod laws;
 
+#[cfg(test)]
+mod tests;
+
 pub use runs::plain_run;
