@@ -5,4 +5,5 @@ pub mod Sizes
 pub mod NamedLists
 pub mod RunSteps
 pub mod LawLemmas
+pub mod RisingKinds
 pub mod Scripts

@@ -16,7 +16,7 @@ below-case true x y z t f = t refl
 below-case false x y z t f = f refl
 
 -- from a number on, what is said of the lower ones is settled
-below-by_place : {X : Type 0} (d : X) (step : (ℕ → X) → ℕ → X) (n p : ℕ) → p < n → below d step n p ≡ by_place d step p
+pub below-by_place : {X : Type 0} (d : X) (step : (ℕ → X) → ℕ → X) (n p : ℕ) → p < n → below d step n p ≡ by_place d step p
 unfolding by_place
 below-by_place d step zero p h = absurd (omega arith)
 below-by_place {X} d step (suc n) p h =

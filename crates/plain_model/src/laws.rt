@@ -1,12 +1,13 @@
 //! What the effects of operations mean, in the words of lists, queues and heaps. Each law is the contract of a function
 //! that does nothing; it holds for every list.
 
-ghost use Rattle.std.specs.Prelude.{◌≡◌, ◌≤◌, ◌+◌, ◌++◌, ◌∷◌, [], ◌↔◌, All, Contains, filter, length, nat_lt};
+ghost use Rattle.std.specs.Prelude.{◌≡◌, true, ◌≤◌, ◌+◌, ◌++◌, ◌∷◌, [], ◌↔◌, All, Contains, filter, length, nat_lt};
 ghost use Rattle.std.specs.List.Sorted.{IsNonDecreasing};
+ghost use Rattle.lazy_rec.specs.History.{IsScript, event_of, kind_of, plain};
 ghost use Rattle.lazy_rec.specs.Plain.{effect, most_items};
-ghost use Rattle.plain_model.specs.Laws.{after_snocs, list_after, reply_of};
+ghost use Rattle.plain_model.specs.Laws.{after_snocs, keeps_order, list_after, reply_of};
 
-use lazy_rec::{Op, Reply};
+use lazy_rec::{Event, Kind, Op, Reply};
 
 /// A queue is first in, first out: after `snoc`s onto the empty queue, `head` tells the first item that was put in.
 pub fn head_is_first_in(first: u32, later: &[u32])
@@ -70,5 +71,15 @@ pub fn upto_and_above_make_base(base: &[u32], bound: u32)
 pub fn meld_is_commutative(base: &[u32], other: &[u32])
     requires { length base.now + length other.now ≤ most_items }
     ensures { effect Op.Meld base.now other.now 0 ≡ effect Op.Meld other.now base.now 0 }
+{
+}
+
+/// The list of a heap, a priority queue or an ordered sequence never falls from left to right, so two equal multisets
+/// are one list.
+pub fn ordered_kinds_rise(events: &[Event], name: u32, kind: Kind)
+    requires script { IsScript events.now }
+    requires of_kind { kind_of (event_of events.now) name ≡ Some kind }
+    requires ordered { keeps_order kind ≡ true }
+    ensures { IsNonDecreasing (plain (event_of events.now) name) }
 {
 }
