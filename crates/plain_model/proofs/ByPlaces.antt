@@ -1,8 +1,8 @@
 -- The definitions on plain lists, by places.
-use Rattle.std.proofs.Common.{◌≡◌, ℕ, zero, suc, ◌+◌, ◌-◌, ◌<◌, ◌≤◌, eqb, ltb, leb, Bool, true, false, not, cond, ◌||◌, List, [], ◌∷◌, ◌++◌, length, take, drop, refl, ap, sym, ◌∙◌, arith, slice_get, unwrap_or, IsOk, Option, Some, None, ◌⊎◌, inl, inr, ⊎_elim}
+use Rattle.std.proofs.Common.{◌≡◌, ℕ, suc, ◌+◌, ◌-◌, ◌<◌, eqb, ltb, leb, Bool, true, false, not, cond, ◌||◌, List, [], ◌∷◌, length, take, refl, ap, sym, ◌∙◌, arith, slice_get, unwrap_or, Some, None, ⊎_elim}
 use Rattle.std.proofs.Math.Dec.{leb-suc-suc}
 use Rattle.std.specs.List.{position_or_len, position, list_any, insert, remove}
-use Rattle.std.proofs.lemmas.Bool.{leb-true, leb-false, le-ltb, lt-ltb, cases_Bool, cond-true, cond-false, ltb-true, ltb-false, false≢true}
+use Rattle.std.proofs.lemmas.Bool.{leb-true, leb-false, le-ltb, lt-ltb, cases_Bool, ltb-false}
 use Rattle.std.proofs.lemmas.Bool.Decides.{nat_tests}
 use Rattle.std.proofs.lemmas.List.Sums.{prefix_len-le-length}
 use Rattle.lazy_rec.specs.Plain.{without_last, last_of, without_first_equal, insert_rising, contains, has_item, without_item}

@@ -1,5 +1,5 @@
 -- A longer list, where a version may have so many items and where not.
-use Rattle.std.proofs.Common.{◌≡◌, ℕ, ◌+◌, leb, Bool, true, false, List, length, refl, ap, sym, ◌∙◌}
+use Rattle.std.proofs.Common.{◌≡◌, ℕ, leb, Bool, true, false, List, length, ap, sym, ◌∙◌}
 use Rattle.lazy_rec.specs.Plain.{grown, most_items}
 use Rattle.lazy_rec.specs.declared.events.Reply.{Reply}
 use Rattle.lazy_rec.specs.declared.events.Reply.TheVariants as replies

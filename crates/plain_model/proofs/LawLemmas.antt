@@ -1,7 +1,7 @@
 -- The laws of the effects.
-use Rattle.std.proofs.Common.{◌≡◌, ℕ, zero, suc, ◌+◌, ◌≤◌, ◌<◌, eqb, leb, ltb, Bool, true, false, not, cond, ◌&&◌, ◌||◌, ◌↔◌, List, [], ◌∷◌, ◌++◌, length, take, drop, filter, refl, ap, sym, ◌∙◌, arith, ⊎_elim, Contains, All, get_or, Some, None, slice_get, length-append, take-append-drop}
-use Rattle.std.specs.List.{list_all, list_any}
-use Rattle.std.specs.List.Sorted.{IsNonDecreasing, IsPermutation}
+use Rattle.std.proofs.Common.{◌≡◌, ℕ, zero, suc, ◌+◌, ◌≤◌, ◌<◌, eqb, leb, ltb, Bool, true, false, cond, ◌↔◌, List, [], ◌∷◌, ◌++◌, length, take, drop, filter, refl, ap, sym, ◌∙◌, arith, ⊎_elim, Contains, get_or, Some, slice_get, length-append, take-append-drop}
+use Rattle.std.specs.List.{list_all}
+use Rattle.std.specs.List.Sorted.{IsNonDecreasing}
 use Rattle.std.proofs.lemmas.Bool.{cases_Bool, leb-true, leb-false, le-leb, le-ltb, lt-ltb, lt-leb, and_parts, eqb-true, eq-eqb, false≢true, or_right}
 use Rattle.std.proofs.lemmas.List.Sorted.{IsPermutation-append_comm}
 use Rattle.lazy_rec.specs.Plain.{effect, most_items, grown, rising, insert_rising, contains, told}
@@ -32,8 +32,8 @@ insert_rising-least x (y ∷ ys) h =
     let le = leb-true x y p.0 in
     ⊎_elim
     (λ t. let ge = leb-true y x t in
-        let same : x ≡ y = omega arith in
-        rw (t, insert_rising-least x ys p.1, same))
+    let same : x ≡ y = omega arith in
+    rw (t, insert_rising-least x ys p.1, same))
     (λ f. rw f)
     (cases_Bool (leb y x))
 
@@ -66,8 +66,8 @@ upto-above b (y ∷ ys) h =
     ⊎_elim
     (λ t. let no = le-ltb b y (leb-true y b t) in rw (t, no) (ap (λ (l : List ℕ). y ∷ l) ih))
     (λ f. let yes = lt-ltb b y (leb-false y b f) in
-        let none = none-above y b ys (leb-false y b f) p.0 in
-        rw (f, yes, none) (ap (λ (l : List ℕ). y ∷ l) (rw none at ih)))
+    let none = none-above y b ys (leb-false y b f) p.0 in
+    rw (f, yes, none) (ap (λ (l : List ℕ). y ∷ l) (rw none at ih)))
     (cases_Bool (leb y b))
 
 pub meld-comm : (v w : List ℕ) → length v + length w ≤ most_items → effect ops.Meld v w 0 ≡ effect ops.Meld w v 0
@@ -86,7 +86,7 @@ has-from x (y ∷ ys) h =
     ⊎_elim
     (λ t. (0, omega arith, sym (eqb-true x y t)))
     (λ (f : eqb x y ≡ false). let rest : contains x ys ≡ true = rw f at h in
-        let i = has-from x ys rest in let l : suc i.0 < suc (length ys) = let b = i.1 in omega arith in (suc i.0, l, i.2))
+    let i = has-from x ys rest in let l : suc i.0 < suc (length ys) = let b = i.1 in omega arith in (suc i.0, l, i.2))
     (cases_Bool (eqb x y))
 
 has-at : (x : ℕ) (v : List ℕ) (k : ℕ) → k < length v → get_or v k x ≡ x → contains x v ≡ true
@@ -98,13 +98,13 @@ one_not_zero : replies.Number 0 ≡ replies.Number 1 → ⊥
 one_not_zero e = let n : ◌≡◌ {A = ℕ} 0 1 = cc in omega arith
 
 pub has-yes : (x : ℕ) (v : List ℕ) → (reply_of ops.Has v [] x ≡ replies.Number 1) ↔ Contains v x
-has-yes x v =
-    ( λ h. ⊎_elim (λ t. has-from x v t) (λ (f : contains x v ≡ false). absurd (one_not_zero (rw f at h))) (cases_Bool (contains x v))
-    , λ i. rw (has-at x v i.0 i.1 i.2) refl
-    )
+has-yes x v = (
+  λ h. ⊎_elim (λ t. has-from x v t) (λ (f : contains x v ≡ false). absurd (one_not_zero (rw f at h))) (cases_Bool (contains x v)),
+  λ i. rw (has-at x v i.0 i.1 i.2) refl,
+)
 
 pub has-no : (x : ℕ) (v : List ℕ) → (reply_of ops.Has v [] x ≡ replies.Number 0) ↔ (¬ Contains v x)
-has-no x v =
-    ( λ h i. one_not_zero (sym h ∙ rw (has-at x v i.0 i.1 i.2) refl)
-    , λ n. ⊎_elim (λ t. absurd (n (has-from x v t))) (λ (f : contains x v ≡ false). rw f refl) (cases_Bool (contains x v))
-    )
+has-no x v = (
+  λ h i. one_not_zero (sym h ∙ rw (has-at x v i.0 i.1 i.2) refl),
+  λ n. ⊎_elim (λ t. absurd (n (has-from x v t))) (λ (f : contains x v ≡ false). rw f refl) (cases_Bool (contains x v)),
+)

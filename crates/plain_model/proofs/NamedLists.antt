@@ -1,10 +1,10 @@
 -- The plain lists that names stand for.
-use Rattle.std.proofs.Common.{◌≡◌, ℕ, zero, suc, ◌+◌, ◌≤◌, ◌<◌, eqb, ltb, Bool, true, false, cond, ◌&&◌, ◌||◌, List, [], ◌∷◌, length, refl, ap, sym, ◌∙◌, subst, arith, ⊎_elim, Option, Some, None}
+use Rattle.std.proofs.Common.{◌≡◌, ℕ, zero, suc, ◌≤◌, ◌<◌, eqb, ltb, Bool, true, false, cond, ◌&&◌, ◌||◌, List, [], ◌∷◌, length, refl, ap, sym, ◌∙◌, arith, Option, Some, None}
 use Rattle.std.specs.List.{list_all}
-use Rattle.std.proofs.lemmas.Bool.{cases_Bool, eqb-true, eqb-false, ltb-true, and_parts, false≢true}
+use Rattle.std.proofs.lemmas.Bool.{eqb-true, eqb-false, ltb-true, and_parts, false≢true}
 use Rattle.lazy_rec.specs.ByPlace.{below, by_place}
-use Rattle.lazy_rec.specs.Kinds.{uses_base, uses_other, uses_argument, bases, bases_of, is_trim}
-use Rattle.lazy_rec.specs.History.{Events, event_of, list_made, plain, IsScript, is_event_at, has_smaller_bases, is_of_its_kind}
+use Rattle.lazy_rec.specs.Kinds.{uses_base, uses_other, uses_argument, is_trim}
+use Rattle.lazy_rec.specs.History.{Events, event_of, list_made, plain, IsScript, has_smaller_bases, is_of_its_kind}
 use Rattle.lazy_rec.specs.Plain.{most_items, effect}
 use Rattle.lazy_rec.specs.declared.events.Event.{Event}
 use Rattle.lazy_rec.specs.declared.events.Op.{Op}

@@ -1,22 +1,21 @@
 -- The lists of heaps, priority queues and ordered sequences never fall.
-use Rattle.std.proofs.Common.{◌≡◌, ℕ, zero, suc, ◌+◌, ◌-◌, ◌≤◌, ◌<◌, eqb, leb, Bool, true, false, cond, ◌&&◌, ◌||◌, List, [], ◌∷◌, ◌++◌, length, take, drop, filter, get_or, refl, ap, sym, ◌∙◌, subst, arith, ◌⊎◌, inl, inr, ⊎_elim, Option, Some, None, slice_get}
+use Rattle.std.proofs.Common.{◌≡◌, ℕ, zero, suc, ◌-◌, ◌<◌, eqb, leb, Bool, true, false, cond, ◌&&◌, ◌||◌, List, [], ◌∷◌, ◌++◌, length, drop, get_or, refl, ap, sym, ◌∙◌, subst, arith, ◌⊎◌, inl, inr, ⊎_elim, Option, Some, None}
 use Rattle.std.specs.List.{list_all, list_any}
 use Rattle.std.specs.List.Sorted.{IsNonDecreasing}
-use Rattle.std.proofs.lemmas.Bool.{cases_Bool, leb-true, and_parts, and_from, or_cases, or_left, or_right, eqb-true, false≢true, cases_lt}
+use Rattle.std.proofs.lemmas.Bool.{cases_Bool, leb-true, and_parts, and_from, or_cases, or_left, or_right, eqb-true, false≢true}
 use Rattle.std.proofs.lemmas.List.Recursion.{and_at}
 use Rattle.std.proofs.lemmas.List.Sorted.{IsNonDecreasingBy-take, IsNonDecreasingBy-drop}
 use Rattle.std.proofs.lemmas.List.Kept.{IsNonDecreasingBy-filter}
 use Rattle.lazy_rec.specs.declared.events.Kind.{Kind}
-use Rattle.lazy_rec.specs.declared.events.Kind.TheVariants as kinds
 use Rattle.lazy_rec.specs.declared.events.Op.{Op}
 use Rattle.lazy_rec.specs.declared.events.Op.TheVariants as ops
 use Rattle.lazy_rec.specs.declared.events.Event.{Event}
 use Rattle.lazy_rec.specs.declared.events.Reply.{Reply}
 use Rattle.lazy_rec.specs.ByPlace.{below, by_place}
 use Rattle.lazy_rec.specs.Tests.{is_some_and}
-use Rattle.lazy_rec.specs.Kinds.{kind_number, same_kind, kinds_with, belongs, uses_base, uses_other, bases, is_trim}
-use Rattle.lazy_rec.specs.Plain.{effect, grown, without_item, without_last, without_first_equal, has_item, contains, rising, insert_rising, most_items}
-use Rattle.lazy_rec.specs.History.{Events, event_of, plain, list_made, kind_of, kind_made, new_kind, IsScript, is_event_at, is_of_its_kind, has_smaller_bases}
+use Rattle.lazy_rec.specs.Kinds.{kind_number, same_kind, kinds_with, belongs, uses_base, uses_other, is_trim}
+use Rattle.lazy_rec.specs.Plain.{effect, without_last, without_first_equal, has_item, contains, rising, insert_rising, most_items}
+use Rattle.lazy_rec.specs.History.{Events, event_of, plain, list_made, kind_of, kind_made, new_kind, IsScript, is_of_its_kind, has_smaller_bases}
 use Rattle.plain_model.specs.Laws.{keeps_order}
 use Rattle.plain_model.proofs.ByPlaces.{without_last-take}
 use Rattle.plain_model.proofs.RisingLists.{is_rising, is_rising-IsNonDecreasing, is_rising-insert_rising, is_rising-rising}
@@ -128,9 +127,9 @@ rises-event events s i e h lower k g o =
     (⊎_elim
     (λ new. new (plain (event_of events) e.base) (plain (event_of events) e.other) e.arg)
     (λ (old : (uses_base e.op ≡ true) × ((o : Option Kind) → new_kind e.op o ≡ o)).
-        let same : kind_of (event_of events) e.base ≡ Some k = sym (old.1 (kind_of (event_of events) e.base)) ∙ (sym (kind-event (event_of events) (suc i) e h b.0) ∙ g) in
-        let has = of_its_kind (event_of events) e k parts.1 old.0 same in
-        effect-rises e.op (plain (event_of events) e.base) (plain (event_of events) e.other) e.arg (ordered-among k (kinds_with e.op) o has) (lower e.base b.0 k same o))
+    let same : kind_of (event_of events) e.base ≡ Some k = sym (old.1 (kind_of (event_of events) e.base)) ∙ (sym (kind-event (event_of events) (suc i) e h b.0) ∙ g) in
+    let has = of_its_kind (event_of events) e k parts.1 old.0 same in
+    effect-rises e.op (plain (event_of events) e.base) (plain (event_of events) e.other) e.arg (ordered-among k (kinds_with e.op) o has) (lower e.base b.0 k same o))
     (new_or_not e.op))
 
 rises-name : (events : List Event) → IsScript events → (i : ℕ) (o : Option Event) → event_of events (suc i) ≡ o → ((m : ℕ) → m < suc i → Rises events m) → Rises events (suc i)

@@ -1,9 +1,8 @@
 -- Lists in rising order.
-use Rattle.std.proofs.Common.{◌≡◌, ℕ, zero, suc, ◌+◌, ◌<◌, ◌≤◌, eqb, ltb, leb, Bool, true, false, cond, ◌&&◌, List, [], ◌∷◌, ◌++◌, length, refl, ap, sym, ◌∙◌, arith, inl, inr, ⊎_elim, get_or}
+use Rattle.std.proofs.Common.{◌≡◌, ℕ, suc, ◌+◌, ◌<◌, ◌≤◌, eqb, leb, Bool, true, false, cond, ◌&&◌, List, [], ◌∷◌, length, refl, ap, sym, ◌∙◌, arith, ⊎_elim, get_or}
 use Rattle.std.specs.List.{list_all, sum_by}
 use Rattle.std.specs.List.Sorted.{IsPermutation, IsNonDecreasing}
-use Rattle.std.proofs.lemmas.Bool.Decides.{nat_tests}
-use Rattle.std.proofs.lemmas.Bool.{cond-true, cond-false, cases_Bool, leb-true, leb-false, le-leb, lt-leb, and_parts, and_from, eqb-false, eq-eqb, ne_eqb, cases_lt}
+use Rattle.std.proofs.lemmas.Bool.{cases_Bool, leb-true, leb-false, le-leb, and_parts, and_from, eq-eqb, ne_eqb, cases_lt}
 use Rattle.std.proofs.lemmas.List.Recursion.{is_sum_by, and_from_places}
 use Rattle.std.proofs.lemmas.List.Sorted.{sum_by-IsPermutation}
 use Rattle.lazy_rec.specs.Plain.{insert_rising, rising}
@@ -40,8 +39,8 @@ is_rising-insert_rising x (y ∷ ys) h =
     ⊎_elim
     (λ t. rw t (and_from (list_all (leb y) (insert_rising x ys)) (is_rising (insert_rising x ys)) (all-insert y x ys (leb-true y x t) p.0) (is_rising-insert_rising x ys p.1)))
     (λ t. let q = leb-false y x t in
-        let le : x ≤ y = omega arith in
-        rw t (and_from (leb x y && list_all (leb x) ys) (is_rising (y ∷ ys)) (and_from (leb x y) (list_all (leb x) ys) (le-leb x y le) (le-all x y ys le p.0)) h))
+    let le : x ≤ y = omega arith in
+    rw t (and_from (leb x y && list_all (leb x) ys) (is_rising (y ∷ ys)) (and_from (leb x y) (list_all (leb x) ys) (le-leb x y le) (le-all x y ys le p.0)) h))
     (cases_Bool (leb y x))
 
 pub is_rising-rising : (v : List ℕ) → is_rising (rising v) ≡ true
@@ -74,8 +73,8 @@ heads : (x y : ℕ) (xs ys : List ℕ) → list_all (leb y) ys ≡ true → time
 heads x y xs ys a e =
     ⊎_elim
     (λ (h : x < y).
-        let none = times-above x y (y ∷ ys) h (and_from (leb y y) (list_all (leb y) ys) (le-leb y y (omega arith)) a) in
-        absurd (omega (arith, times-head x xs)))
+    let none = times-above x y (y ∷ ys) h (and_from (leb y y) (list_all (leb y) ys) (le-leb y y (omega arith)) a) in
+    absurd (omega (arith, times-head x xs)))
     (λ (h : y ≤ x). h)
     (cases_lt x y)
 

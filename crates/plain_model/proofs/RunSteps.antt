@@ -1,5 +1,5 @@
 -- One step of a run: the lists so far, and the next event of a script.
-use Rattle.std.proofs.Common.{◌≡◌, ℕ, zero, suc, ◌+◌, ◌≤◌, ◌<◌, List, [], ◌∷◌, ◌++◌, length, map, take, get_or, slice_get, refl, ap, sym, ◌∙◌, subst, arith, Option, Some, None, Vec, length-append, ⊎_elim}
+use Rattle.std.proofs.Common.{◌≡◌, ℕ, zero, suc, ◌+◌, ◌≤◌, ◌<◌, List, [], ◌∷◌, ◌++◌, length, map, take, get_or, slice_get, refl, ap, sym, ◌∙◌, arith, Some, Vec, ⊎_elim}
 use Rattle.std.specs.declared.alloc.Global.{Global}
 use Rattle.std.proofs.lemmas.Bool.{cases_lt}
 use Rattle.std.proofs.lemmas.List.{take_more, map-append}
@@ -7,7 +7,7 @@ use Rattle.lazy_rec.specs.Plain.{most_items, effect}
 use Rattle.lazy_rec.specs.History.{event_of, plain, reply_to, IsScript}
 use Rattle.lazy_rec.specs.declared.events.Event.{Event}
 use Rattle.lazy_rec.specs.declared.events.Reply.{Reply}
-use Rattle.plain_model.specs.Given.{list_at}
+use Rattle.plain_model.specs.Versions.{list_at}
 use Rattle.plain_model.proofs.NamedLists.{smaller-bases, plain-few, plain-event, plain-zero}
 
 list_at-before : (versions : List (Vec ℕ Global)) (v : Vec ℕ Global) (k : ℕ) → k < length versions → list_at (versions ++ v ∷ []) k ≡ list_at versions k
@@ -63,8 +63,8 @@ lists-more events s versions next i d v h a n q m k le =
     (⊎_elim
     (λ (l : k < suc i). list_at-before versions v k (omega arith) ∙ a k (omega arith))
     (λ (l : suc i ≤ k). let last : k ≡ length versions = omega arith in
-        let top : k ≡ suc i = omega arith in
-        ap (list_at (versions ++ v ∷ [])) last ∙ (list_at-end versions v ∙ (here ∙ ap (plain (event_of events)) (sym top))))
+    let top : k ≡ suc i = omega arith in
+    ap (list_at (versions ++ v ∷ [])) last ∙ (list_at-end versions v ∙ (here ∙ ap (plain (event_of events)) (sym top))))
     (cases_lt k (suc i)))
 
 pub told-more : (events : List Event) → IsScript events → (versions : List (Vec ℕ Global)) (told next : List Reply) (i : ℕ) (d : Event) (r : Reply) → i < length events → AreLists events versions i → told ≡ map (reply_to (event_of events)) (take i events) → next ≡ told ++ r ∷ [] → r ≡ (effect (get_or events i d).op (list_at versions (get_or events i d).base) (list_at versions (get_or events i d).other) (get_or events i d).arg).1 → next ≡ map (reply_to (event_of events)) (take (i + 1) events)

@@ -1,5 +1,5 @@
 -- A test by which a list of events that is written out is seen to be a script.
-use Rattle.std.proofs.Common.{◌≡◌, ℕ, zero, suc, ◌+◌, ◌≤◌, leb, Bool, true, false, ◌&&◌, List, [], ◌∷◌, length, slice_get, Option, Some, None, refl, ap, sym, ◌∙◌, subst, arith}
+use Rattle.std.proofs.Common.{◌≡◌, ℕ, zero, suc, ◌+◌, leb, Bool, true, ◌&&◌, List, [], ◌∷◌, length, slice_get, Some, subst, arith}
 use Rattle.std.proofs.lemmas.Bool.{and_parts, leb-true}
 use Rattle.lazy_rec.specs.History.{Events, event_of, is_event_at, IsScript}
 use Rattle.lazy_rec.specs.declared.events.Event.{Event}

@@ -1,8 +1,7 @@
 -- No version has more items than one may have.
-use Rattle.std.proofs.Common.{◌≡◌, ℕ, zero, suc, ◌+◌, ◌-◌, ◌≤◌, ◌<◌, eqb, leb, refl, Bool, true, false, cond, List, [], ◌∷◌, ◌++◌, length, take, drop, reverse, filter, arith, ⊎_elim, min, Option, Some, None}
+use Rattle.std.proofs.Common.{◌≡◌, ℕ, ◌-◌, ◌≤◌, eqb, leb, refl, Bool, true, false, cond, List, [], ◌∷◌, ◌++◌, length, take, drop, filter, arith, ⊎_elim}
 use Rattle.std.proofs.lemmas.Bool.{cases_Bool, leb-true}
 use Rattle.std.proofs.lemmas.List.{length-take, length-drop, length-reverse}
-use Rattle.std.specs.List.{count_by}
 use Rattle.lazy_rec.specs.Plain.{most_items, grown, effect, without_item, without_last, without_first_equal, has_item, contains, insert_rising, rising}
 use Rattle.lazy_rec.specs.declared.events.Op.{Op}
 use Rattle.lazy_rec.specs.declared.events.Op.TheVariants as ops

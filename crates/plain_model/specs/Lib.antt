@@ -1,2 +1,3 @@
-pub mod Given
+pub mod Outcome
+pub mod Versions
 pub mod Laws

@@ -2,12 +2,11 @@
 
 ghost use Rattle.std.specs.Prelude.{◌≡◌, ◌≤◌, ◌++◌, ◌∷◌, [], take, drop, reverse, filter, length, leb, IfOk};
 ghost use Rattle.lazy_rec.specs.Plain.{most_items, has_item, contains, grown, effect, insert_rising, rising, without_first_equal, without_item, without_last};
-ghost use Rattle.plain_model.specs.Given.{Gives};
-
-use std::alloc::{AllocError, Global};
+ghost use Rattle.plain_model.specs.Outcome.{Gives};
 
 use crate::lists::{first_above, first_equal, has, is_allowed, item_at, last_item, reply_of};
 use lazy_rec::{Op, Reply};
+use std::alloc::{AllocError, Global};
 
 /// What an operation answers: the list of the new version, and the reply.
 #[derive(Drop)]
@@ -20,7 +19,10 @@ pub(crate) struct Outcome {
 fn copied(alloc: Global, list: &[u32], reply: Reply) -> Result<Outcome, AllocError>
     ensures { IfOk result (Gives (list.now, reply)) }
 {
-    Ok(Outcome { list: Vec::from_slice(alloc, list)?, reply })
+    Ok(Outcome {
+        list: Vec::from_slice(alloc, list)?,
+        reply,
+    })
 }
 
 /// The second list after the first one.
@@ -41,7 +43,10 @@ fn joined(alloc: Global, base: &[u32], first: &[u32], second: &[u32]) -> Result<
     if !is_allowed(first.len() + second.len()) {
         return copied(alloc, base, Reply::TooLong);
     }
-    Ok(Outcome { list: chained(alloc, first, second)?, reply: Reply::Ok })
+    Ok(Outcome {
+        list: chained(alloc, first, second)?,
+        reply: Reply::Ok,
+    })
 }
 
 /// `meld`: the items of both lists in rising order.
@@ -53,7 +58,10 @@ fn melded(alloc: Global, base: &[u32], other: &[u32]) -> Result<Outcome, AllocEr
     }
     let mut list = chained(alloc, base, other)?;
     list.sort()?;
-    Ok(Outcome { list, reply: Reply::Ok })
+    Ok(Outcome {
+        list,
+        reply: Reply::Ok,
+    })
 }
 
 /// `insert`: the item after all that are not above it.
@@ -65,7 +73,10 @@ fn inserted(alloc: Global, base: &[u32], item: u32) -> Result<Outcome, AllocErro
     }
     let mut list = Vec::from_slice(alloc, base)?;
     list.insert(first_above(base, item).unwrap_or(base.len()), item)?;
-    Ok(Outcome { list, reply: Reply::Ok })
+    Ok(Outcome {
+        list,
+        reply: Reply::Ok,
+    })
 }
 
 /// `tail`, `delmin` and `popl`: the list without its first item.
@@ -97,22 +108,35 @@ fn removed(alloc: Global, base: &[u32], item: u32) -> Result<Outcome, AllocError
     };
     let mut list = Vec::from_slice(alloc, base)?;
     list.remove(at);
-    Ok(Outcome { list, reply: Reply::Ok })
+    Ok(Outcome {
+        list,
+        reply: Reply::Ok,
+    })
 }
 
 /// `reverse`: the items in the other order.
 fn reversed(alloc: Global, base: &[u32]) -> Result<Outcome, AllocError>
     ensures { IfOk result (Gives (reverse base.now, Reply.Ok)) }
 {
-    Ok(Outcome { list: base.iter().rev().copied().collect(alloc)?, reply: Reply::Ok })
+    Ok(Outcome {
+        list: base.iter().rev().copied().collect(alloc)?,
+        reply: Reply::Ok,
+    })
 }
 
 /// `upto`: the items that are not above the argument.
 fn up_to(alloc: Global, base: &[u32], bound: u32) -> Result<Outcome, AllocError>
     ensures { IfOk result (Gives (filter (λ y. leb y bound) base.now, Reply.Ok)) }
 {
-    let list = base.iter().copied().filter(|item| *item <= bound).collect(alloc)?;
-    Ok(Outcome { list, reply: Reply::Ok })
+    let list = base
+        .iter()
+        .copied()
+        .filter(|item| *item <= bound)
+        .collect(alloc)?;
+    Ok(Outcome {
+        list,
+        reply: Reply::Ok,
+    })
 }
 
 /// `take`: the first items, as many as the argument says or there are.
@@ -130,7 +154,13 @@ fn dropped(alloc: Global, base: &[u32], count: u32) -> Result<Outcome, AllocErro
 }
 
 /// The new list and the reply of an operation, from the base's list, the other's list and the argument.
-pub(crate) fn outcome_of(alloc: Global, op: Op, base: &[u32], other: &[u32], argument: u32) -> Result<Outcome, AllocError>
+pub(crate) fn outcome_of(
+    alloc: Global,
+    op: Op,
+    base: &[u32],
+    other: &[u32],
+    argument: u32,
+) -> Result<Outcome, AllocError>
     requires { length base.now ≤ most_items }
     ensures { IfOk result (Gives (effect op base.now other.now argument)) }
 {
@@ -145,7 +175,11 @@ pub(crate) fn outcome_of(alloc: Global, op: Op, base: &[u32], other: &[u32], arg
         Op::Head | Op::Min | Op::First => copied(alloc, base, reply_of(item_at(base, 0))),
         Op::Max | Op::Last => copied(alloc, base, reply_of(last_item(base))),
         Op::Nth => copied(alloc, base, reply_of(item_at(base, argument))),
-        Op::Has => copied(alloc, base, Reply::Number(if has(base, argument) { 1 } else { 0 })),
+        Op::Has => copied(
+            alloc,
+            base,
+            Reply::Number(if has(base, argument) { 1 } else { 0 }),
+        ),
         Op::Tail | Op::Delmin | Op::Popl => without_first(alloc, base),
         Op::Delmax | Op::Popr => without_last(alloc, base),
         Op::Remove => removed(alloc, base, argument),

@@ -2,11 +2,9 @@
 #![tactic(auto)]
 
 mod effects;
+pub mod laws;
 mod lists;
 mod runs;
-
-pub mod laws;
-
 #[cfg(test)]
 mod tests;
 

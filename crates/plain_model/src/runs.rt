@@ -3,12 +3,12 @@
 ghost use Rattle.std.specs.Prelude.{◌≡◌, ◌≤◌, ◌<◌, map, length, IfOk};
 ghost use Rattle.lazy_rec.specs.Plain.{effect, most_items};
 ghost use Rattle.lazy_rec.specs.History.{IsScript, event_of, reply_to};
-ghost use Rattle.plain_model.specs.Given.{Gives, list_at};
-
-use std::alloc::{AllocError, Global};
+ghost use Rattle.plain_model.specs.Outcome.{Gives};
+ghost use Rattle.plain_model.specs.Versions.{list_at};
 
 use crate::effects::{Outcome, outcome_of};
 use lazy_rec::{Event, NoMemory, Reply};
+use std::alloc::{AllocError, Global};
 
 /// What an event answers from the versions that it names.
 fn answered(alloc: Global, versions: &[Vec<u32>], event: Event) -> Result<Outcome, AllocError>
@@ -19,7 +19,13 @@ fn answered(alloc: Global, versions: &[Vec<u32>], event: Event) -> Result<Outcom
 {
     let base = &versions[event.base as usize];
     let other = &versions[event.other as usize];
-    outcome_of(alloc, event.op, base.as_slice(), other.as_slice(), event.arg)
+    outcome_of(
+        alloc,
+        event.op,
+        base.as_slice(),
+        other.as_slice(),
+        event.arg,
+    )
 }
 
 /// The replies of a script's events, in order. The name 0, which no event has, stands for the empty list.

@@ -3,12 +3,11 @@
 ghost use Rattle.std.specs.Prelude.{◌≡◌, IfOk, map};
 ghost use Rattle.lazy_rec.specs.History.{IsScript};
 
+use crate::plain_run;
+use lazy_rec::{Event, Kind, Op, Reply};
 use std::alloc::{AllocError, Global};
 use std::process::Abort;
 use std::test::Fail;
-
-use crate::plain_run;
-use lazy_rec::{Event, Kind, Op, Reply};
 
 /// Rows of a table: an operation, its base, its other and its argument, and the reply. Events are named from 1.
 macro_rules! rows {

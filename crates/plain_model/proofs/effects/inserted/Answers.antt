@@ -1,4 +1,4 @@
-use Rattle.std.proofs.Common.{◌≡◌, ◌+◌, ℕ, List, length, arith, sym, ap, ◌∙◌, insert}
+use Rattle.std.proofs.Common.{◌≡◌, ◌+◌, length, arith}
 use Rattle.plain_model.proofs.ByPlaces.{inserted-at}
 use Rattle.plain_model.proofs.Growth.{grown-allowed, grown-too_long, by_parts}
 use Rattle.plain_model.proofs.RisingLists.{length-insert_rising}

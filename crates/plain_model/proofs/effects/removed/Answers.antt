@@ -1,4 +1,4 @@
-use Rattle.std.proofs.Common.{◌≡◌, ◌∙◌, sym, ap, remove, List, ℕ}
+use Rattle.std.proofs.Common.{◌∙◌, ap, remove, List, ℕ}
 use Rattle.plain_model.proofs.ByPlaces.{without_item-found, without_item-not_found}
 use Rattle.plain_model.proofs.Growth.{by_parts}
 use Rattle.plain_model.proofs.effects.removed.Goals as goal

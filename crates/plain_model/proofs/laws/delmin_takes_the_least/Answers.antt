@@ -1,5 +1,4 @@
-use Rattle.plain_model.proofs.LawLemmas.{head-after_snocs, least-put_back, parts-whole, upto-above, meld-comm}
-use Rattle.plain_model.proofs.RisingLists.{is_rising-IsNonDecreasing}
+use Rattle.plain_model.proofs.LawLemmas.{least-put_back}
 use Rattle.plain_model.proofs.laws.delmin_takes_the_least.Goals as goal
 
 pub returns : goal.returns

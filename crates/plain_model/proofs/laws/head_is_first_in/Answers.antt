@@ -1,5 +1,4 @@
-use Rattle.plain_model.proofs.LawLemmas.{head-after_snocs, least-put_back, parts-whole, upto-above, meld-comm}
-use Rattle.plain_model.proofs.RisingLists.{is_rising-IsNonDecreasing}
+use Rattle.plain_model.proofs.LawLemmas.{head-after_snocs}
 use Rattle.plain_model.proofs.laws.head_is_first_in.Goals as goal
 
 pub returns : goal.returns

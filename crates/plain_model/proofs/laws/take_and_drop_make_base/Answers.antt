@@ -1,5 +1,4 @@
-use Rattle.plain_model.proofs.LawLemmas.{head-after_snocs, least-put_back, parts-whole, upto-above, meld-comm}
-use Rattle.plain_model.proofs.RisingLists.{is_rising-IsNonDecreasing}
+use Rattle.plain_model.proofs.LawLemmas.{parts-whole}
 use Rattle.plain_model.proofs.laws.take_and_drop_make_base.Goals as goal
 
 pub returns : goal.returns

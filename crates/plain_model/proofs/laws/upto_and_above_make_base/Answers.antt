@@ -1,4 +1,4 @@
-use Rattle.plain_model.proofs.LawLemmas.{head-after_snocs, least-put_back, parts-whole, upto-above, meld-comm}
+use Rattle.plain_model.proofs.LawLemmas.{upto-above}
 use Rattle.plain_model.proofs.RisingLists.{is_rising-IsNonDecreasing}
 use Rattle.plain_model.proofs.laws.upto_and_above_make_base.Goals as goal
 

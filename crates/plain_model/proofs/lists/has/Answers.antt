@@ -1,4 +1,4 @@
-use Rattle.std.proofs.Common.{◌≡◌, ◌∙◌}
+use Rattle.std.proofs.Common.{◌∙◌}
 use Rattle.plain_model.proofs.ByPlaces.{contains-list_any}
 use Rattle.plain_model.proofs.lists.has.Goals as goal
 

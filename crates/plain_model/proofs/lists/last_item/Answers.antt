@@ -1,4 +1,4 @@
-use Rattle.std.proofs.Common.{◌≡◌, ◌∙◌, sym}
+use Rattle.std.proofs.Common.{◌∙◌, sym}
 use Rattle.plain_model.proofs.ByPlaces.{last_of-get}
 use Rattle.plain_model.proofs.lists.last_item.Goals as goal
 

@@ -1,6 +1,5 @@
-use Rattle.std.proofs.Common.{◌≡◌, ℕ, suc, ◌+◌, ◌≤◌, ◌∷◌, ◌++◌, [], length, arith, ap, ◌∙◌, sym, List, Vec, length-append}
+use Rattle.std.proofs.Common.{◌≡◌, ℕ, suc, ◌∷◌, ◌++◌, [], length, arith, ap, ◌∙◌, sym, List, Vec, length-append}
 use Rattle.std.specs.declared.alloc.Global.{Global}
-use Rattle.lazy_rec.specs.declared.events.Reply.{Reply}
 use Rattle.plain_model.proofs.RunSteps.{base-in, other-in, base-few, lists-same, lists-none, lists-more, told-more}
 use Rattle.plain_model.proofs.runs.replies_of.Goals as goal
 
@@ -13,14 +12,14 @@ answered-requires c =
     record {
       base_in = base-in events c.requires i _ c.loop-event-test.true _ l;
       other_in = other-in events c.requires i _ c.loop-event-test.true _ l;
-      few = base-few events c.requires c.as_slice.result.now i _ c.loop-event-test.true a
+      few = base-few events c.requires c.as_slice.result.now i _ c.loop-event-test.true a;
     }
 
 pub loop-event-init : goal.loop-event-init
 loop-event-init c = record {
   lists = lists-none c.args.events.now c.new-versions.result.items c.push.new.self.items c.new.result c.new-versions.ensures.items c.in_ok-push.ensures.items c.new.ensures.items;
   count = ap length (c.in_ok-push.ensures.items) ∙ ap (λ (l : List (Vec ℕ Global)). length (l ++ c.new.result ∷ [])) c.new-versions.ensures.items;
-  told = c.new-replies.ensures.items
+  told = c.new-replies.ensures.items;
 }
 
 pub loop-event-preserved : goal.loop-event-preserved
@@ -35,5 +34,5 @@ loop-event-preserved c =
     record {
       lists = lists-more events c.requires read c.push-in-loop-event.new.self.items i _ made.list c.loop-event-test.true a l q c.in_ok-outcome.ensures.0;
       count = ap length q ∙ omega (arith, length-append read (made.list ∷ []));
-      told = told-more events c.requires read c.loop-event.replies.items c.push-in-loop-event-2.new.self.items i _ made.reply c.loop-event-test.true a c.loop-event.invariant.told c.in_ok-push-3.ensures.items c.in_ok-outcome.ensures.1
+      told = told-more events c.requires read c.loop-event.replies.items c.push-in-loop-event-2.new.self.items i _ made.reply c.loop-event-test.true a c.loop-event.invariant.told c.in_ok-push-3.ensures.items c.in_ok-outcome.ensures.1;
     }

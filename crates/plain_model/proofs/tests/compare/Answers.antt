@@ -1,4 +1,4 @@
-use Rattle.std.proofs.Common.{◌≡◌, ◌∙◌, sym, subst}
+use Rattle.std.proofs.Common.{◌∙◌, sym, subst}
 use Rattle.lazy_rec.specs.History.{IsScript}
 use Rattle.plain_model.proofs.tests.compare.Goals as goal
 
