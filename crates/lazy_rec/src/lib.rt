@@ -10,6 +10,7 @@ pub mod records;
 pub mod states;
 
 pub use events::{Event, Kind, NoMemory, Op, Reply};
+pub use numbers::{bits, ones, trailing_ones, zeros};
 pub use places::{Item, Ref};
 pub use records::{Rec, Sort};
 pub use states::SuspState;
