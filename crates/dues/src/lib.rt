@@ -1,13 +1,8 @@
-// A library with one function.
+//! What a script's events are charged and may take, from the events alone: dues, node bounds, size bounds, and the room
+//! of a whole script.
 #![tactic(auto)]
 
-ghost use Rattle.std.specs.Prelude.{◌≡◌};
-ghost use Rattle.dues.specs.Echo.{echo_of};
+pub mod tables;
+pub mod sizes;
 
-// The `ensures` clause is the contract: what `echo` returns is `echo_of` of its argument, a definition
-// in `specs/Echo.antt`, which a caller's clause can cite too.
-pub fn echo(x: usize) -> usize
-    ensures { result ≡ echo_of x }
-{
-    x
-}
+pub use tables::{direct, due, never_forces};

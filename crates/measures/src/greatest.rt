@@ -1,5 +1,7 @@
 //! The greatest item.
-ghost use Rattle.std.specs.Prelude.{◌≡◌, ◌+◌, ◌≤◌, ◌^◌, All, max};
+ghost use Rattle.std.specs.Prelude.{◌≡◌, ◌+◌, true, max};
+ghost use Rattle.std.proofs.Common.{arith, rules};
+ghost use Rattle.measures.specs.Values.{are_keys, keys_join_by_max, keys_with_none, keys_of_part, max_is_associative};
 
 use lazy_rec::Item;
 
@@ -9,7 +11,7 @@ use crate::Measure;
 pub struct Greatest;
 
 impl Measure for Greatest {
-    ghost AreValues = { All (λ value. value ≤ 2 ^ 32) };
+    ghost AreValues = { λ values. are_keys values ≡ true };
 
     ghost unit_value = { 0 };
 
@@ -29,17 +31,17 @@ impl Measure for Greatest {
         item.0 as u64 + 1
     }
 
-    ghost is_associative = { ? };
+    ghost is_associative = { λ a b c _. max_is_associative a b c };
 
-    ghost unit_on_the_left = { ? };
+    ghost unit_on_the_left = { λ a _. Prim.omega arith };
 
-    ghost unit_on_the_right = { ? };
+    ghost unit_on_the_right = { λ a _. Prim.omega arith };
 
-    ghost item_is_value = { ? };
+    ghost item_is_value = { λ _ h. Prim.search rules };
 
-    ghost join_is_value = { ? };
+    ghost join_is_value = { keys_join_by_max };
 
-    ghost unit_is_value = { ? };
+    ghost unit_is_value = { keys_with_none };
 
-    ghost part_is_value = { ? };
+    ghost part_is_value = { keys_of_part };
 }

@@ -1,5 +1,7 @@
 //! The last item.
-ghost use Rattle.std.specs.Prelude.{◌≡◌, ◌+◌, ◌≤◌, ◌^◌, nat_lt, if◌then◌else◌, All};
+ghost use Rattle.std.specs.Prelude.{◌≡◌, ◌+◌, true};
+ghost use Rattle.std.proofs.Common.{arith, rules};
+ghost use Rattle.measures.specs.Values.{are_keys, last_key, keys_join_by_last, keys_with_none, keys_of_part, last_is_associative};
 
 use lazy_rec::Item;
 
@@ -9,11 +11,11 @@ use crate::Measure;
 pub struct LastKey;
 
 impl Measure for LastKey {
-    ghost AreValues = { All (λ value. value ≤ 2 ^ 32) };
+    ghost AreValues = { λ values. are_keys values ≡ true };
 
     ghost unit_value = { 0 };
 
-    ghost joined = { λ a b. if nat_lt 0 b then b else a };
+    ghost joined = { last_key };
 
     ghost item_value = { λ item. item.0 + 1 };
 
@@ -29,17 +31,17 @@ impl Measure for LastKey {
         item.0 as u64 + 1
     }
 
-    ghost is_associative = { ? };
+    ghost is_associative = { λ a b c _. last_is_associative a b c };
 
-    ghost unit_on_the_left = { ? };
+    ghost unit_on_the_left = { λ a _. Prim.search rules };
 
-    ghost unit_on_the_right = { ? };
+    ghost unit_on_the_right = { λ a _. Prim.search rules };
 
-    ghost item_is_value = { ? };
+    ghost item_is_value = { λ _ h. Prim.search rules };
 
-    ghost join_is_value = { ? };
+    ghost join_is_value = { keys_join_by_last };
 
-    ghost unit_is_value = { ? };
+    ghost unit_is_value = { keys_with_none };
 
-    ghost part_is_value = { ? };
+    ghost part_is_value = { keys_of_part };
 }

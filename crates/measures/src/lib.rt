@@ -2,7 +2,7 @@
 //! (Hinze and Paterson, Finger trees: a simple general-purpose data structure, section 4).
 #![tactic(auto)]
 
-ghost use Rattle.std.specs.Prelude.{◌≡◌, ℕ, ◌<◌, List, [], ◌∷◌, ◌++◌, map, fold};
+ghost use Rattle.std.specs.Prelude.{◌≡◌, ℕ, ◌<◌, ◌^◌, List, [], ◌∷◌, ◌++◌, map, fold};
 ghost use Rattle.lazy_rec.specs.declared.places.Item.{Item};
 
 use lazy_rec::Item;
@@ -68,4 +68,29 @@ pub fn measured<M: Measure>(items: &[Item]) -> u64
         value = M::join(value, M::of(*item));
     }
     value
+}
+
+#[cfg(test)]
+mod tests {
+    use super::*;
+
+    /// Three instances on the same items. By hand: three items; the greatest is 9; the last is 7.
+    #[test]
+    fn of_the_same_items(rt: HostRuntime) {
+        let items = [Item(5), Item(9), Item(7)];
+        assert_eq!(rt; measured::<Size>(&items), 3);
+        assert_eq!(rt; measured::<Greatest>(&items), 10);
+        assert_eq!(rt; measured::<LastKey>(&items), 8);
+    }
+
+    /// No items, and the greatest item that there is.
+    #[test]
+    fn at_the_ends(rt: HostRuntime) {
+        assert_eq!(rt; measured::<Size>(&[]), 0);
+        assert_eq!(rt; measured::<Greatest>(&[]), 0);
+        assert_eq!(rt; measured::<LastKey>(&[]), 0);
+        let items = [Item(u32::MAX), Item(0)];
+        assert_eq!(rt; measured::<Greatest>(&items), 4_294_967_296);
+        assert_eq!(rt; measured::<LastKey>(&items), 1);
+    }
 }

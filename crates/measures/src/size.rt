@@ -1,5 +1,7 @@
 //! The number of items.
-ghost use Rattle.std.specs.Prelude.{◌≡◌, ◌+◌, ◌<◌, ◌^◌, sum};
+ghost use Rattle.std.specs.Prelude.{◌+◌};
+ghost use Rattle.std.proofs.Common.{arith};
+ghost use Rattle.measures.specs.Values.{AreCounts, counts_join, counts_with_none, counts_of_part};
 
 use lazy_rec::Item;
 
@@ -9,7 +11,7 @@ use crate::Measure;
 pub struct Size;
 
 impl Measure for Size {
-    ghost AreValues = { λ values. sum values < 2 ^ 63 };
+    ghost AreValues = { AreCounts };
 
     ghost unit_value = { 0 };
 
@@ -29,17 +31,17 @@ impl Measure for Size {
         1
     }
 
-    ghost is_associative = { ? };
+    ghost is_associative = { λ a b c _. Prim.omega arith };
 
-    ghost unit_on_the_left = { ? };
+    ghost unit_on_the_left = { λ a _. Prim.omega arith };
 
-    ghost unit_on_the_right = { ? };
+    ghost unit_on_the_right = { λ a _. Prim.omega arith };
 
-    ghost item_is_value = { ? };
+    ghost item_is_value = { λ _ _. Prim.omega arith };
 
-    ghost join_is_value = { ? };
+    ghost join_is_value = { counts_join };
 
-    ghost unit_is_value = { ? };
+    ghost unit_is_value = { counts_with_none };
 
-    ghost part_is_value = { ? };
+    ghost part_is_value = { counts_of_part };
 }

@@ -1,0 +1,2 @@
+pub mod BitsFit
+pub mod SizeLaws
