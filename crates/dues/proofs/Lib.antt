@@ -1,2 +1,5 @@
 pub mod BitsFit
 pub mod SizeLaws
+pub mod ByPlaceLaws
+pub mod RoomLaws
+pub mod VersionLaws

@@ -2,7 +2,10 @@
 //! of a whole script.
 #![tactic(auto)]
 
-pub mod tables;
+pub mod rooms;
 pub mod sizes;
+pub mod tables;
 
+pub use rooms::{model_size, room, room_fits};
+pub use sizes::{size_bound, size_bounds_hold};
 pub use tables::{direct, due, never_forces};
