@@ -3,3 +3,4 @@ pub mod SizeLaws
 pub mod ByPlaceLaws
 pub mod RoomLaws
 pub mod VersionLaws
+pub mod ScriptTests

@@ -108,8 +108,11 @@ places_to events last = sum_to (λ i. places_of (event_of events) (kind_of (even
 
 pub places_to_fit : (events : List Event) (last : ℕ) → last ≤ 200000 → places_to events last < 2 ^ 54
 places_to_fit events last few =
-    omega (arith, sum_fits (λ i. places_of (event_of events) (kind_of (event_of events) i) (event_of events i)) most_places
-        (λ i. places_of_fit (event_of events) (kind_of (event_of events) i) (event_of events i)) last)
+    omega (
+      arith,
+      sum_fits (λ i. places_of (event_of events) (kind_of (event_of events) i) (event_of events i)) most_places
+          (λ i. places_of_fit (event_of events) (kind_of (event_of events) i) (event_of events i)) last,
+    )
 
 pub bounds_to_fit : (events : List Event) (last : ℕ) → last ≤ 200000 → sum_to (bound_of (event_of events)) last < 2 ^ 49
 bounds_to_fit events last few = omega (arith, sum_fits (bound_of (event_of events)) most_items (λ i. (bounds_fit (event_of events) i).1) last)

@@ -52,7 +52,8 @@ readable events script i e pos is =
     record {
       base = base_below e.op e.base e.other i pos unused.0 names.1;
       other = other_below e.op e.base e.other i pos unused.1 names.1;
-      kind = has_kind e.op e.base e.other _ (kind_of (event_of events)) all.1 }
+      kind = has_kind e.op e.base e.other _ (kind_of (event_of events)) all.1;
+    }
 
 get_before : {X : Type 0} (xs : List X) (x : X) (i : ℕ) → i < length xs → slice_get (xs ++ x ∷ []) i ≡ slice_get xs i
 get_before [] x i h = absurd (omega arith)
@@ -159,14 +160,14 @@ module _ (events : List Event) (script : IsScript events) (sum : ℕ → ℕ) (v
   pub places_added : (again : List VersionBound) (k : Kind) (n : ℕ) → next_kind seen e ≡ Some k → again ≡ versions → n ≡ next_places again k e
       → sum taken + places_of (event_of events) (kind_of (event_of events) (suc taken)) (event_of events (suc taken)) ≡ sum (suc taken) → total + n ≡ sum (suc taken)
   places_added again k n of_kind as_before of_places = summed n (places_of (event_of events) (kind_of (event_of events) (suc taken)) (event_of events (suc taken)))
-      ( of_places ∙ ap (λ vs. next_places vs k e) as_before
+      (of_places ∙ ap (λ vs. next_places vs k e) as_before
       ∙ places_next (event_of events) versions passed.kept e may_read.base may_read.other k named (ap (λ vs. next_kind vs e) (sym same) ∙ of_kind)
       ∙ ap (λ i. places_of (event_of events) (kind_of (event_of events) (suc i)) (event_of events (suc i))) passed.as_many)
 
   -- and where the size bounds are
   pub bound_added : (n : ℕ) → n ≡ next_bound seen e → sum taken + bound_of (event_of events) (suc taken) ≡ sum (suc taken) → total + n ≡ sum (suc taken)
   bound_added n of_bound = summed n (bound_of (event_of events) (suc taken))
-      ( of_bound ∙ ap (λ vs. next_bound vs e) same
+      (of_bound ∙ ap (λ vs. next_bound vs e) same
       ∙ bound_next (event_of events) versions passed.kept e may_read.base may_read.other named
       ∙ ap (λ i. bound_of (event_of events) (suc i)) passed.as_many)
 
@@ -176,4 +177,5 @@ module _ (events : List Event) (script : IsScript events) (sum : ℕ → ℕ) (v
         (more_kept (event_of events) versions passed.kept e may_read.base may_read.other v named
         (ap (λ vs. next_kind vs e) (sym same) ∙ of_kind) (of_bound ∙ ap (λ vs. next_bound vs e) same));
     as_many = omega (arith, ap length grown, length-append versions (v ∷ []), passed.as_many);
-    added = added ∙ ap sum (omega arith) }
+    added = added ∙ ap sum (omega arith);
+  }

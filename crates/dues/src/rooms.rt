@@ -6,12 +6,10 @@ ghost use Rattle.lazy_rec.specs.History.{IsScript};
 ghost use Rattle.dues.specs.Rooms.{room, model_size};
 ghost use Rattle.dues.specs.Versions.{version_at, bound_at, next_kind, next_bound, next_places};
 
-use std::alloc::Global;
-
-use lazy_rec::{Event, Kind, NoMemory, Op};
-
 use crate::sizes::size_bound;
 use crate::tables::{direct, due};
+use lazy_rec::{Event, Kind, NoMemory, Op};
+use std::alloc::Global;
 
 /// What is kept of a version: its kind and its size bound.
 #[derive(Clone, Copy)]
@@ -108,5 +106,52 @@ pub fn model_size(alloc: Global, events: &[Event]) -> Result<u64, NoMemory>
 pub fn room_fits()
     ensures room { (events : List Event) → IsScript events → room events < 2 ^ 54 }
     ensures model_size { (events : List Event) → IsScript events → model_size events < 2 ^ 49 }
-{
+{}
+
+#[cfg(test)]
+mod tests {
+    use super::*;
+    use std::test::Fail;
+
+    /// The smallest rotation: a queue, one item in, looked at, taken out, looked at again.
+    const ROTATION: [Event; 5] = [
+        Event {
+            op: Op::New(Kind::Bankq),
+            base: 0,
+            other: 0,
+            arg: 0,
+        },
+        Event {
+            op: Op::Snoc,
+            base: 1,
+            other: 0,
+            arg: 5,
+        },
+        Event {
+            op: Op::Head,
+            base: 2,
+            other: 0,
+            arg: 0,
+        },
+        Event {
+            op: Op::Tail,
+            base: 2,
+            other: 0,
+            arg: 0,
+        },
+        Event {
+            op: Op::Head,
+            base: 4,
+            other: 0,
+            arg: 0,
+        },
+    ];
+
+    /// By hand the events take 1, 3 + 8 * 1, 0, 2 + 8 * 2 and 0 places, and the size bounds are 0, 1, 1, 0 and 0.
+    #[test]
+    fn smallest_rotation(rt: HostRuntime) -> Result<(), Fail> {
+        assert_eq!(rt; room(rt.alloc(), &ROTATION)?, 30);
+        assert_eq!(rt; model_size(rt.alloc(), &ROTATION)?, 2);
+        Ok(())
+    }
 }

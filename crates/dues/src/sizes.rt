@@ -33,5 +33,4 @@ pub fn size_bound(_kind: Kind, event: &Event, b1: u32, b2: u32) -> u32
 pub fn size_bounds_hold()
     ensures enough { (events : List Event) (i : ℕ) → length (plain (event_of events) i) ≤ bound_of (event_of events) i }
     ensures within { (events : List Event) (i : ℕ) → bound_of (event_of events) i ≤ most_items }
-{
-}
+{}

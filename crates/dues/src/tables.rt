@@ -106,3 +106,6 @@ pub fn never_forces(kind: Kind, op: Op) -> bool
         _ => true,
     }
 }
+
+#[cfg(test)]
+mod tests;

@@ -3,9 +3,8 @@ ghost use Rattle.std.specs.Prelude.{◌≡◌, ◌+◌, true, max};
 ghost use Rattle.std.proofs.Common.{arith, rules};
 ghost use Rattle.measures.specs.Values.{are_keys, keys_join_by_max, keys_with_none, keys_of_part, max_is_associative};
 
-use lazy_rec::Item;
-
 use crate::Measure;
+use lazy_rec::Item;
 
 /// One more than the greatest item, or 0 where there is none. Its values are 0 to 2^32.
 pub struct Greatest;

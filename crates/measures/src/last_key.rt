@@ -3,9 +3,8 @@ ghost use Rattle.std.specs.Prelude.{◌≡◌, ◌+◌, true};
 ghost use Rattle.std.proofs.Common.{arith, rules};
 ghost use Rattle.measures.specs.Values.{are_keys, last_key, keys_join_by_last, keys_with_none, keys_of_part, last_is_associative};
 
-use lazy_rec::Item;
-
 use crate::Measure;
+use lazy_rec::Item;
 
 /// One more than the last item, or 0 where there is none. Its values are 0 to 2^32.
 pub struct LastKey;

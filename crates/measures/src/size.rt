@@ -3,9 +3,8 @@ ghost use Rattle.std.specs.Prelude.{◌+◌};
 ghost use Rattle.std.proofs.Common.{arith};
 ghost use Rattle.measures.specs.Values.{AreCounts, counts_join, counts_with_none, counts_of_part};
 
-use lazy_rec::Item;
-
 use crate::Measure;
+use lazy_rec::Item;
 
 /// How many items a part has. Its values are numbers whose sum stays below 2^63.
 pub struct Size;

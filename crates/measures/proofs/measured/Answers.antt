@@ -15,9 +15,9 @@ join-value-requires g c =
 
 pub loop-item-init : goal.loop-item-init
 loop-item-init g c =
-    let values : List ℕ = map g.M.Measure.item_value c.args.items.now in
-    ( subst (λ unit. g.M.Measure.AreValues (unit ∷ values)) (sym c.unit-value.ensures) (g.met.M.Measure.unit_is_value [] values c.requires)
-    , ap (λ unit. fold g.M.Measure.joined unit values) (sym c.unit-value.ensures)
+    let values : List ℕ = map g.M.Measure.item_value c.args.items.now in (
+      subst (λ unit. g.M.Measure.AreValues (unit ∷ values)) (sym c.unit-value.ensures) (g.met.M.Measure.unit_is_value [] values c.requires),
+      ap (λ unit. fold g.M.Measure.joined unit values) (sym c.unit-value.ensures),
     )
 
 pub loop-item-preserved : goal.loop-item-preserved
@@ -25,7 +25,7 @@ loop-item-preserved g c =
     let value = c.loop-item.value in
     let values : List ℕ = map g.M.Measure.item_value (drop (c.loop-item.item-index + 1) c.args.items.now) in
     let e = rest_values g.M.Measure.item_value c.args.items.now c.loop-item.item-index (record { 0 = 0 }) c.of.result c.loop-item-test.true c.of.ensures in
-    let before = subst (λ rest. g.M.Measure.AreValues (value ∷ rest)) e c.loop-item.invariant.0 in
-    ( subst (λ v. g.M.Measure.AreValues (v ∷ values)) (sym c.join-value.ensures) (g.met.M.Measure.join_is_value [] value c.of.result values before)
-    , c.loop-item.invariant.1 ∙ ap (fold g.M.Measure.joined value) e ∙ ap (λ v. fold g.M.Measure.joined v values) (sym c.join-value.ensures)
+    let before = subst (λ rest. g.M.Measure.AreValues (value ∷ rest)) e c.loop-item.invariant.0 in (
+      subst (λ v. g.M.Measure.AreValues (v ∷ values)) (sym c.join-value.ensures) (g.met.M.Measure.join_is_value [] value c.of.result values before),
+      c.loop-item.invariant.1 ∙ ap (fold g.M.Measure.joined value) e ∙ ap (λ v. fold g.M.Measure.joined v values) (sym c.join-value.ensures),
     )

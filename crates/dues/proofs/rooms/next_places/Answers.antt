@@ -9,6 +9,9 @@ overflow_mul-result c =
 pub overflow_add-result : goal.overflow_add-result
 overflow_add-result c =
     omega (
-        arith, c.due.ensures, due_fits c.args.kind c.args.event.now.op c.bound_at-n1.result c.bound_at-n2.result,
-        c.direct.ensures, direct_fits c.args.kind c.args.event.now.op c.bound_at-n1.result c.bound_at-n2.result,
+      arith,
+      c.due.ensures,
+      due_fits c.args.kind c.args.event.now.op c.bound_at-n1.result c.bound_at-n2.result,
+      c.direct.ensures,
+      direct_fits c.args.kind c.args.event.now.op c.bound_at-n1.result c.bound_at-n2.result,
     )
