@@ -1,7 +1,7 @@
 -- No number has more than 64 binary digits here.
-use Rattle.std.proofs.Common.{ℕ, ◌+◌, ◌≤◌, ◌*◌, arith}
+use Rattle.std.proofs.Common.{ℕ, ◌≤◌, ◌*◌, arith}
 use Rattle.std.proofs.lemmas.Nat.{mul-le}
-use Rattle.lazy_rec.specs.Numbers.{digits, binary, bits}
+use Rattle.lazy_rec.specs.Numbers.{binary, bits}
 use Rattle.lazy_rec.proofs.Digits.{length-digits}
 
 pub bits_fit : (n : ℕ) → bits n ≤ 64

@@ -1,5 +1,5 @@
 -- How large the places of an event and the sums over a script can be.
-use Rattle.std.proofs.Common.{◌≡◌, ℕ, zero, suc, ◌+◌, ◌*◌, ◌≤◌, ◌<◌, ◌^◌, arith, Option, Some, None, List, length}
+use Rattle.std.proofs.Common.{ℕ, zero, suc, ◌+◌, ◌*◌, ◌≤◌, ◌<◌, ◌^◌, arith, Option, Some, None, List}
 use Rattle.lazy_rec.specs.declared.events.Kind.{Kind}
 use Rattle.lazy_rec.specs.declared.events.Kind.TheVariants as kinds
 use Rattle.lazy_rec.specs.declared.events.Op.{Op}
@@ -10,7 +10,7 @@ use Rattle.lazy_rec.specs.Due.{due, direct, new_places}
 use Rattle.lazy_rec.specs.Plain.{most_items}
 use Rattle.lazy_rec.specs.History.{Events, event_of, kind_of}
 use Rattle.dues.specs.Sizes.{bound_of}
-use Rattle.dues.specs.Rooms.{places, places_of, sum_to, room, model_size}
+use Rattle.dues.specs.Rooms.{places, places_of, sum_to}
 use Rattle.dues.proofs.BitsFit.{bits_fit, square_fits}
 use Rattle.dues.proofs.SizeLaws.{bounds_fit}
 

@@ -1,10 +1,9 @@
 -- A list of events is a script where each event passes the test of a script's events; tests compute it.
-use Rattle.std.proofs.Common.{◌≡◌, ℕ, zero, suc, ◌+◌, ◌≤◌, refl, sym, ap, ◌∙◌, subst, arith, Bool, true, ◌&&◌, Option, Some, None, List, [], ◌∷◌, length}
+use Rattle.std.proofs.Common.{◌≡◌, ℕ, zero, suc, ◌+◌, subst, arith, Bool, true, ◌&&◌, Some, List, [], ◌∷◌, length}
 use Rattle.std.specs.Prelude.{slice_get, nat_le}
 use Rattle.std.proofs.lemmas.Bool.{and_parts, leb-true}
 use Rattle.lazy_rec.specs.declared.events.Event.{Event}
-use Rattle.lazy_rec.specs.ByPlace.{by_place}
-use Rattle.lazy_rec.specs.History.{Events, event_of, kind_of, is_event_at, IsScript}
+use Rattle.lazy_rec.specs.History.{Events, event_of, is_event_at, IsScript}
 
 -- each event of the rest of a list, which begins at a name, may stand where it stands
 abbrev pub may_stand : Events → ℕ → List Event → Bool

@@ -1,17 +1,16 @@
 -- One pass over a script keeps the kind and the size bound of each version.
-use Rattle.std.proofs.Common.{◌≡◌, ℕ, zero, suc, ◌+◌, ◌≤◌, ◌<◌, refl, sym, ap, ◌∙◌, subst, arith, eqb, ltb, Bool, true, false, cond, ◌&&◌, ◌||◌, ⊎_elim, inl, inr, Option, Some, None, List, [], ◌∷◌, ◌++◌, length, length-append}
+use Rattle.std.proofs.Common.{◌≡◌, ℕ, zero, suc, ◌+◌, ◌≤◌, ◌<◌, refl, sym, ap, ◌∙◌, subst, arith, eqb, ltb, Bool, true, ◌&&◌, ◌||◌, ⊎_elim, Option, Some, None, List, [], ◌∷◌, ◌++◌, length, length-append}
 use Rattle.std.specs.Prelude.{slice_get, IsSome}
 use Rattle.std.specs.List.{list_all}
 use Rattle.std.proofs.lemmas.Bool.{true≢false, and_parts, eqb-true, ltb-true, cases_lt}
-use Rattle.std.proofs.lemmas.Option.{slice_get_past}
 use Rattle.lazy_rec.specs.declared.events.Kind.{Kind}
 use Rattle.lazy_rec.specs.declared.events.Op.{Op}
 use Rattle.lazy_rec.specs.declared.events.Op.TheVariants as ops
 use Rattle.lazy_rec.specs.declared.events.Event.{Event}
 use Rattle.lazy_rec.specs.Tests.{is_some_and}
 use Rattle.lazy_rec.specs.ByPlace.{below, by_place}
-use Rattle.lazy_rec.specs.Kinds.{bases, bases_of, belongs, same_kind, is_trim, uses_base, uses_other}
-use Rattle.lazy_rec.specs.History.{Events, event_of, new_kind, kind_made, kind_of, has_smaller_bases, is_of_its_kind, is_event_at, IsScript}
+use Rattle.lazy_rec.specs.Kinds.{bases_of, is_trim, uses_base, uses_other}
+use Rattle.lazy_rec.specs.History.{Events, event_of, new_kind, kind_made, kind_of, has_smaller_bases, is_of_its_kind, IsScript}
 use Rattle.dues.specs.declared.rooms.VersionBound.{VersionBound}
 use Rattle.dues.specs.Sizes.{size_bound, bound_made, bound_of}
 use Rattle.dues.specs.Rooms.{places, places_of}

@@ -1,7 +1,6 @@
 -- What one pass over the events keeps of the versions so far: of each its kind and its size bound.
-use Rattle.std.specs.Prelude.{◌≡◌, ℕ, zero, suc, ◌+◌, ◌*◌, ◌≤◌, Option, Some, None, List, length, slice_get}
+use Rattle.std.specs.Prelude.{◌≡◌, ℕ, zero, suc, ◌≤◌, Option, Some, None, List, length, slice_get}
 use Rattle.lazy_rec.specs.declared.events.Kind.{Kind}
-use Rattle.lazy_rec.specs.declared.events.Op.{Op}
 use Rattle.lazy_rec.specs.declared.events.Event.{Event}
 use Rattle.lazy_rec.specs.History.{Events, new_kind, kind_of}
 use Rattle.dues.specs.declared.rooms.VersionBound.{VersionBound}

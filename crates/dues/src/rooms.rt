@@ -2,8 +2,8 @@
 
 ghost use Rattle.std.specs.Prelude.{◌≡◌, ℕ, ◌+◌, ◌*◌, ◌≤◌, ◌<◌, ◌^◌, List, Some, IfOk, IsSome, length};
 ghost use Rattle.lazy_rec.specs.declared.events.Event.{Event};
-ghost use Rattle.lazy_rec.specs.History.{IsScript};
-ghost use Rattle.dues.specs.Rooms.{room, model_size};
+ghost use Rattle.lazy_rec.specs.History.{event_of, kind_of, IsScript};
+ghost use Rattle.dues.specs.Rooms.{room, room_at_sizes, places_of, places_at_size, model_size};
 ghost use Rattle.dues.specs.Versions.{version_at, bound_at, next_kind, next_bound, next_places};
 
 use crate::sizes::size_bound;
@@ -101,6 +101,12 @@ pub fn model_size(alloc: Global, events: &[Event]) -> Result<u64, NoMemory>
     }
     Ok(total)
 }
+
+/// The room covers what the events take and are charged at the true sizes of their bases: each event by itself, and all.
+pub fn room_covers()
+    ensures each { (events : List Event) (i : ℕ) → let named = event_of events in places_at_size named (kind_of named i) (named i) ≤ places_of named (kind_of named i) (named i) }
+    ensures all { (events : List Event) → room_at_sizes events ≤ room events }
+{}
 
 /// The room of every script is below 2^54, and the sum of its size bounds below 2^49.
 pub fn room_fits()

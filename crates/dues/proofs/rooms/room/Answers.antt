@@ -1,4 +1,4 @@
-use Rattle.std.proofs.Common.{◌≡◌, ◌∙◌, suc, ap, refl, rules, arith, List, [], ◌∷◌, ◌++◌}
+use Rattle.std.proofs.Common.{◌∙◌, suc, ap, refl, rules, arith}
 use Rattle.std.proofs.lemmas.Option.{slice_get-get_or}
 use Rattle.dues.proofs.RoomLaws.{places_to, places_to_fit}
 use Rattle.dues.proofs.VersionLaws.{passed_none, next_has_kind, places_added, passed_more}
