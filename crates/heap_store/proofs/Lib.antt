@@ -1,0 +1,13 @@
+pub mod ByPlaceLaws
+pub mod Alls
+pub mod NameLaws
+pub mod GrowthLaws
+pub mod MeaningLaws
+pub mod CompletionLaws
+pub mod MadeLaws
+pub mod RecordLaws
+pub mod Steps
+pub mod ShowLaws
+pub mod LawfulLaws
+pub mod RowLaws
+pub mod HistoryLaws

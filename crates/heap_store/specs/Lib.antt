@@ -1,0 +1,15 @@
+pub mod Span
+pub mod World
+pub mod Rows
+pub mod Forest
+pub mod Completion
+pub mod Legal
+pub mod Lawful
+pub mod LookedAt
+pub mod Growth
+pub mod Hand
+pub mod View
+pub mod RowCalls
+pub mod Jobs
+pub mod Budget
+pub mod Shared

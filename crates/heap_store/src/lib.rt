@@ -1,0 +1,17 @@
+//! The store as the structures see it: the traits of a heap, of claims, of rows and of pending work, what they promise of
+//! the world that was seen and of what is in hand, and a store of one thread over vectors.
+#![tactic(auto)]
+
+pub mod claims;
+pub mod heap;
+pub mod jobs;
+pub mod nodes;
+pub mod run;
+pub mod versions;
+
+pub use claims::{Claim, Full, HeldClaim, NamesFull, OpenRow};
+pub use heap::{Claims, Heap, Rows};
+pub use jobs::{After, Built, Cursor, EventJob, Jobs, Prep, Stage};
+pub use nodes::Node;
+pub use run::Run;
+pub use versions::Version;
