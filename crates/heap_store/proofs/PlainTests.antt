@@ -1,7 +1,6 @@
 -- What the tests of the plain heap put.
 use Rattle.std.proofs.Common.{◌≡◌, ℕ, zero, suc, ◌+◌, ◌<◌, ◌≤◌, true, List, [], ◌∷◌, ◌++◌, refl, sym, subst, arith, eqb, ⊎_elim}
 use Rattle.std.proofs.lemmas.Bool.{eq-eqb, or_left, or_right, cases_eq}
-use Rattle.lazy_rec.specs.declared.places.Item.{Item}
 use Rattle.lazy_rec.specs.declared.records.Rec.TheVariants.{Leaf}
 use Rattle.heap_store.specs.Span.{Span}
 use Rattle.heap_store.specs.Hand.{IsInHand, contains, places_from}

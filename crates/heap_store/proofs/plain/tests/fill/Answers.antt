@@ -13,8 +13,8 @@ pub loop-heap-preserved : goal.loop-heap-preserved
 loop-heap-preserved c =
     let hand = (view_of c.loop-heap.heap).hand in
     subst (λ h. IsInHand h c.put-place.new.run) (sym c.put-place.ensures.put.hand)
-      (subst (λ r. IsInHand (hand_put hand c.loop-heap.run.next (Leaf (record { 0 = 5 }))) r) (sym c.put-place.ensures.run)
-        (IsInHand-next hand c.loop-heap.run (Leaf (record { 0 = 5 })) c.loop-heap.invariant))
+    (subst (λ r. IsInHand (hand_put hand c.loop-heap.run.next (Leaf (record { 0 = 5 }))) r) (sym c.put-place.ensures.run)
+    (IsInHand-next hand c.loop-heap.run (Leaf (record { 0 = 5 })) c.loop-heap.invariant))
 
 pub loop-heap-smaller : goal.loop-heap-smaller
 loop-heap-smaller c = rw c.put-place.ensures.run (omega (arith, c.loop-heap-test.true, c.left.ensures))
