@@ -46,3 +46,60 @@ fn small_store(rt: HostRuntime) -> Result<(), Fail> {
     assert_eq!(rt; heap.load_counts(), (3, 2));
     Ok(())
 }
+
+/// A test that has failed.
+fn wrong(what: &'static str) -> Result<(), Fail> {
+    let none: Option<()> = None;
+    none.ok_or(what)?;
+    Ok(())
+}
+
+/// A rotation of no cells over a rear of one item: it is claimed, given back, claimed again and done.
+#[test]
+fn states_of_a_suspension(rt: HostRuntime) -> Result<(), Fail> {
+    let mut heap = PlainHeap::open(rt.alloc(), 3, 0)?;
+    let mut run = heap.reserve(3)?;
+    assert!(rt; run.next().0 == 5);
+    let _rear = heap.put(
+        &mut run,
+        Rec::LCons {
+            child: false,
+            value: 7,
+            rest: Ref(1),
+        },
+    );
+    let s = heap.put(
+        &mut run,
+        Rec::BankRot {
+            xs: Ref(0),
+            rear: Ref(5),
+            left: 0,
+            origin: Ref(6),
+            off: 0,
+        },
+    );
+    let cell = heap.put(
+        &mut run,
+        Rec::Cons {
+            child: false,
+            value: 7,
+            rest: Ref(0),
+        },
+    );
+    run.finish();
+    assert_eq!(rt; heap.state(s), SuspState::Unforced { given_up: 0 });
+    let Claim::Won = heap.claim(s) else {
+        return wrong("the first claim");
+    };
+    let Claim::Busy = heap.claim(s) else {
+        return wrong("the second claim");
+    };
+    heap.give_up(s);
+    assert_eq!(rt; heap.state(s), SuspState::Unforced { given_up: 1 });
+    let Claim::Won = heap.claim(s) else {
+        return wrong("the third claim");
+    };
+    heap.complete(s, cell, 1);
+    assert_eq!(rt; heap.claim(s), Claim::Done(cell));
+    Ok(())
+}
