@@ -1,0 +1,2 @@
+//! The rows of events, and books of versions.
+#![tactic(auto)]
