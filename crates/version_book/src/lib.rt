@@ -1,2 +1,4 @@
 //! The rows of events, and books of versions.
 #![tactic(auto)]
+
+pub mod words;
