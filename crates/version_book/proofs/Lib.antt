@@ -1,2 +1,3 @@
 pub mod WordLaws
 pub mod Tables
+pub mod Setting
