@@ -247,10 +247,10 @@ module _ (rs : Records) (rows rows' : NamedRows) (legal : IsHistory rs rows) (n 
       by true e = its_kind_up rows rows' set_keeps rs legal t.event (begun_bases rows t b e)
 
   -- what a row with a version says of it, at the rows before and after
-  base_known : (t : Row) (v : Version) → is_begun_well rows t ≡ true → version_of t.ending ≡ Some v → uses_base t.event.op ≡ true → is_answered rows t.event.base ≡ true
+  pub base_known : (t : Row) (v : Version) → is_begun_well rows t ≡ true → version_of t.ending ≡ Some v → uses_base t.event.op ≡ true → is_answered rows t.event.base ≡ true
   base_known t v b f = of_base t.event.op t.event.base t.event.other (λ j. is_answered rows j ≡ true) (all_true _ (bases t.event) (answered_bases rows t v b f))
 
-  other_known : (t : Row) (v : Version) → is_begun_well rows t ≡ true → version_of t.ending ≡ Some v → uses_other t.event.op ≡ true → is_answered rows t.event.other ≡ true
+  pub other_known : (t : Row) (v : Version) → is_begun_well rows t ≡ true → version_of t.ending ≡ Some v → uses_other t.event.op ≡ true → is_answered rows t.event.other ≡ true
   other_known t v b f = of_other t.event.op t.event.base t.event.other (λ j. is_answered rows j ≡ true) (all_true _ (bases t.event) (answered_bases rows t v b f))
 
   outcome_same : (t : Row) (v : Version) → is_begun_well rows t ≡ true → version_of t.ending ≡ Some v
