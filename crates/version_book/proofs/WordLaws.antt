@@ -5,7 +5,11 @@ use Rattle.std.proofs.lemmas.List.{get_or-set_same, get_or-set_other, get_or_pas
 use Rattle.std.proofs.lemmas.Bool.{cases_lt}
 use Rattle.lazy_rec.specs.Named.{Records}
 use Rattle.heap_store.specs.World.{World, recs}
-use Rattle.heap_store.specs.Rows.{Row, NamedRows, row_of, row_at, word, words_at, word_at, store_word}
+use Rattle.std.proofs.Common.{eqb, ◌/◌, ◌-◌, get_or}
+use Rattle.std.proofs.lemmas.Option.{slice_get-get_or}
+use Rattle.heap_store.proofs.ShowLaws.{one_value}
+use Rattle.lazy_rec.specs.declared.events.Op.{Op}
+use Rattle.heap_store.specs.Rows.{Row, NamedRows, not_ended, op_of_number, caller_of_word, is_begun_word, event_with, row_with, row_of, row_at, word, words_at, word_at, store_word}
 use Rattle.heap_store.specs.LookedAt.{RootsOf}
 
 -- other rows keep their words
@@ -36,3 +40,38 @@ recs-store w (suc k) i v = refl
 pub roots-store : (w : World) (name i v : ℕ) (rows : NamedRows) → RootsOf w rows → RootsOf (store_word w name i v) rows
 roots-store w zero i v rows h = h
 roots-store w (suc k) i v rows h = record { roots = h.roots; looked = h.looked }
+
+-- and the stored word is there
+pub word-same : (w : World) (name i v : ℕ) → 1 ≤ name → length (words_at w name) ≡ 6 → i < 6 → word_at (store_word w name i v) name i ≡ v
+word-same w zero i v low six small = absurd (omega arith)
+word-same w (suc k) i v low six small = ⊎_elim
+    (λ l. ap (λ ws. word ws i) (get_or-set_same w.rows k _ [] l) ∙ get_or-set_same (slice_index_or w.rows k []) i v 0 (omega (arith, six)))
+    (λ l. absurd (omega (arith, six, ap length (get_or_past w.rows k [] l))))
+    (cases_lt k (length w.rows))
+
+-- ---- the row that six words show
+
+-- none where word 0 isn't stored
+pub no-row : (w : World) (name : ℕ) → word_at w name 0 ≡ 0 → row_at w name ≡ None
+no-row w name e = rw e refl
+
+nonzero : (n : ℕ) → (n ≡ 0 → ⊥) → eqb n 0 ≡ false
+nonzero n h = grind arith
+
+-- a row, by all its words
+pub whole-row : (w : World) (name : ℕ) (op : Op) → (word_at w name 0 ≡ 0 → ⊥) → op_of_number (word_at w name 0 / 256) ≡ Some op
+    → row_at w name ≡ Some (row_with name (words_at w name) op)
+whole-row w name op some op_is = rw (nonzero _ some, op_is) refl
+
+-- an unended row, by its first three words
+pub open-row : (w : World) (name : ℕ) (op : Op) → (word_at w name 0 ≡ 0 → ⊥) → op_of_number (word_at w name 0 / 256) ≡ Some op → word_at w name 5 ≡ 0
+    → row_at w name ≡ Some (record { caller = caller_of_word (word_at w name 0); event = event_with (words_at w name) op; begun = is_begun_word (word_at w name 0); ending = not_ended })
+open-row w name op some op_is end = rw (nonzero _ some, op_is, end) refl
+
+-- the words of a name, as a read of the rows gives them
+pub words-read : (w : World) (name : ℕ) (ws : List ℕ) → 1 ≤ name → name ≤ length w.rows → ws ≡ get_or w.rows (name - 1) ws → words_at w name ≡ ws
+words-read w zero ws low high e = absurd (omega arith)
+words-read w (suc k) ws low high e =
+    let l : k < length w.rows = omega arith in
+    let i : suc k - 1 ≡ k = omega arith in
+    one_value _ _ (sym (slice_get-get_or w.rows k [] l) ∙ slice_get-get_or w.rows k ws l) ∙ sym (rw i at e)

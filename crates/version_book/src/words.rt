@@ -1,6 +1,7 @@
 //! The six words of a row: what they are for an event and its end, and what they tell.
 ghost use Rattle.std.specs.Prelude.{◌≡◌, ◌+◌, ◌*◌, ◌/◌, ◌%◌, ◌^◌, ◌<◌, ◌≤◌, true, Some, is_some, slice_get};
 ghost use Rattle.heap_store.specs.Rows.{all_kinds, op_of_number, reply_of_word, version_of_word};
+ghost use Rattle.heap_store.specs.Legal.{reply_in_range};
 ghost use Rattle.heap_store.specs.RowCalls.{is_word_value};
 ghost use Rattle.version_book.specs.Words.{IsFirstWord, IsBasesWord, IsVersionWord};
 
@@ -119,7 +120,7 @@ const KINDS: [Kind; 8] = [
 ];
 
 /// The operation with a number.
-fn op_of(number: u64) -> Op
+pub(crate) fn op_of(number: u64) -> Op
     requires { is_some (op_of_number number) ≡ true }
     ensures { op_of_number number ≡ Some result }
 {
@@ -197,7 +198,7 @@ pub fn version_of(name: u32, word: u64) -> Version
 
 /// The reply that word 4 tells.
 pub fn reply_of(word: u64) -> Reply
-    requires { word < 34359738368 }
+    requires { reply_in_range (reply_of_word word) ≡ true }
     ensures { result ≡ reply_of_word word }
 {
     let tag = word % 8;

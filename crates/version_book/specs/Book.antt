@@ -1,0 +1,82 @@
+-- How a book's rows change while events run on a heap that no other hand works on.
+use Rattle.std.specs.Prelude.{◌≡◌, ℕ, ◌+◌, ◌<◌, ◌≤◌, Bool, true, false, Option, Some, None, List, []}
+use Rattle.std.specs.List.{list_all, list_any}
+use Rattle.lazy_rec.specs.declared.events.Event.{Event}
+use Rattle.lazy_rec.specs.declared.events.Reply.{Reply}
+use Rattle.lazy_rec.specs.Kinds.{bases, is_trim}
+use Rattle.lazy_rec.specs.History.{has_smaller_bases, is_of_its_kind}
+use Rattle.heap_store.specs.declared.claims.Full.{Full}
+use Rattle.heap_store.specs.declared.claims.OpenRow.{OpenRow}
+use Rattle.heap_store.specs.declared.versions.Version.{Version}
+use Rattle.heap_store.specs.World.{World, recs}
+use Rattle.heap_store.specs.Growth.{Grows}
+use Rattle.heap_store.specs.Rows.{Row, Ending, not_ended, answered, full, memory, no_base, row_at, word_at, is_answered, is_given_up, events_of}
+use Rattle.heap_store.specs.Hand.{Hand, contains, hand_begun, hand_ended}
+use Rattle.heap_store.specs.View.{View}
+
+-- no other hand works on the heap, which has no plan and isn't bound to a caller, and no claim is in hand
+pub record IsOwn (v : View) : Type 0 where
+  pub alone : v.about.alone ≡ true
+  pub plan : v.about.plan ≡ None
+  pub caller : v.about.caller ≡ None
+  pub claims : v.hand.claims ≡ []
+
+-- a name that is drawn and whose row is empty, while no other row is worked on
+pub record IsDrawn (v : View) (name : ℕ) : Type 0 where
+  pub own : IsOwn v
+  pub low : 1 ≤ name
+  pub high : name ≤ v.about.rows
+  pub drawn : contains v.hand.names name ≡ true
+  pub empty : (j : ℕ) → word_at v.seen name j ≡ 0
+  pub idle : v.hand.open_row ≡ None
+
+-- the row of an event that this caller has begun, and that hasn't ended
+abbrev pub begun_row : Event → Row
+begun_row e = record { caller = 0; event = e; begun = true; ending = not_ended }
+
+abbrev pub ended_row : Event → Ending → Row
+ended_row e ending = record { caller = 0; event = e; begun = true; ending = ending }
+
+-- the row of an event that was skipped
+abbrev pub skipped_row : Event → Row
+skipped_row e = record { caller = 0; event = e; begun = false; ending = no_base }
+
+-- an event that may be begun or skipped under the name
+pub record IsNextEvent (v : View) (name : ℕ) (e : Event) : Type 0 where
+  pub trim : is_trim e ≡ true
+  pub smaller : has_smaller_bases name e ≡ true
+
+-- all its bases are answered, and of one kind, which has the operation
+pub record MayBegin (v : View) (name : ℕ) (e : Event) : Type 0 where
+  pub next : IsNextEvent v name e
+  pub answered : list_all (is_answered (row_at v.seen)) (bases e) ≡ true
+  pub kinds : is_of_its_kind (events_of (row_at v.seen)) e ≡ true
+
+-- the row of the name was set, and no other row or place changed
+pub record RowSet (old new : View) (name : ℕ) (r : Row) : Type 0 where
+  pub nodes : new.seen.nodes ≡ old.seen.nodes
+  pub here : row_at new.seen name ≡ Some r
+  pub others : (i : ℕ) → (i ≡ name → ⊥) → row_at new.seen i ≡ row_at old.seen i
+  pub about : new.about ≡ old.about
+  pub refusals : new.refusals ≡ old.refusals
+  pub drawn : new.drawn ≡ old.drawn
+  pub named : new.named ≡ old.named
+
+pub record Begun (old new : View) (name : ℕ) (e : Event) : Type 0 where
+  pub set : RowSet old new name (begun_row e)
+  pub hand : new.hand ≡ hand_begun old.hand name
+  pub end_word : word_at new.seen name 5 ≡ 0
+
+pub record Ended (old new : View) (name : ℕ) (r : Row) : Type 0 where
+  pub set : RowSet old new name r
+  pub hand : new.hand ≡ hand_ended old.hand name
+
+-- the row that is worked on is that of the name and the event, and a reserve was refused since it began, or not
+pub record IsWorking (v : View) (name : ℕ) (e : Event) (refused : Bool) : Type 0 where
+  pub own : IsOwn v
+  pub low : 1 ≤ name
+  pub high : name ≤ v.about.rows
+  pub drawn : contains v.hand.names name ≡ true
+  pub here : row_at v.seen name ≡ Some (begun_row e)
+  pub end_word : word_at v.seen name 5 ≡ 0
+  pub open_row : v.hand.open_row ≡ Some (record { name = name; refused = refused })
