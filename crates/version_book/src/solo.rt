@@ -14,6 +14,8 @@ pub fn solo_book(alloc: Global, nodes: u32, events: &[Event]) -> Result<Closed, 
     requires queues { AreQueues events.now }
     ensures { IfOk result (λ closed. IsBook closed nodes events.now) }
 {
-    let _unused = (alloc, nodes, events);
+    let _alloc = alloc;
+    let _nodes = nodes;
+    let _events = events;
     Err(NoMemory)
 }
