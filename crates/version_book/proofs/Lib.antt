@@ -1,3 +1,5 @@
 pub mod WordLaws
 pub mod Tables
 pub mod Setting
+pub mod Puts
+pub mod Begins

@@ -12,6 +12,7 @@ use Rattle.heap_store.specs.World.{World, recs}
 use Rattle.heap_store.specs.Growth.{Grows}
 use Rattle.heap_store.specs.Rows.{Row, Ending, not_ended, answered, full, memory, no_base, row_at, word_at, is_answered, is_given_up, events_of}
 use Rattle.heap_store.specs.Hand.{Hand, contains, hand_begun, hand_ended}
+use Rattle.heap_store.specs.RowCalls.{is_word_value}
 use Rattle.heap_store.specs.View.{View}
 
 -- no other hand works on the heap, which has no plan and isn't bound to a caller, and no claim is in hand
@@ -80,3 +81,27 @@ pub record IsWorking (v : View) (name : ℕ) (e : Event) (refused : Bool) : Type
   pub here : row_at v.seen name ≡ Some (begun_row e)
   pub end_word : word_at v.seen name 5 ≡ 0
   pub open_row : v.hand.open_row ≡ Some (record { name = name; refused = refused })
+
+-- what storing one of words 1 to 4 asks, of a row that hasn't ended: words 1 and 2 come before word 0
+pub record MayPut (v : View) (name i value : ℕ) : Type 0 where
+  pub own : IsOwn v
+  pub low : 1 ≤ name
+  pub high : name ≤ v.about.rows
+  pub drawn : contains v.hand.names name ≡ true
+  pub from : 1 ≤ i
+  pub to : i ≤ 4
+  pub fits : is_word_value i value ≡ true
+  pub end_word : word_at v.seen name 5 ≡ 0
+  pub first : i < 3 → word_at v.seen name 0 ≡ 0
+
+-- the word was stored, and no row says anything else for it
+pub record WordPut (old new : View) (name i value : ℕ) : Type 0 where
+  pub nodes : new.seen.nodes ≡ old.seen.nodes
+  pub rows : row_at new.seen ≡ row_at old.seen
+  pub here : word_at new.seen name i ≡ value
+  pub others : (j : ℕ) → (j ≡ i → ⊥) → word_at new.seen name j ≡ word_at old.seen name j
+  pub hand : new.hand ≡ old.hand
+  pub about : new.about ≡ old.about
+  pub refusals : new.refusals ≡ old.refusals
+  pub drawn : new.drawn ≡ old.drawn
+  pub named : new.named ≡ old.named
