@@ -3,3 +3,4 @@ pub mod Tables
 pub mod Setting
 pub mod Puts
 pub mod Begins
+pub mod Ends
