@@ -136,7 +136,7 @@ known rows e h = h
 
 -- ---- the row that is worked on
 
-pub working_put : (v v' : View) (name i value : ℕ) (refused : Bool) → IsWorking v name refused → 3 ≤ i → i ≤ 4 → WordPut v v' name i value → IsWorking v' name refused
+abbrev pub working_put : (v v' : View) (name i value : ℕ) (refused : Bool) → IsWorking v name refused → 3 ≤ i → i ≤ 4 → WordPut v v' name i value → IsWorking v' name refused
 working_put v v' name i value refused k low high p = record {
   own = record { alone = rw p.about k.own.alone; plan = rw p.about k.own.plan; caller = rw p.about k.own.caller; claims = rw p.hand k.own.claims };
   low = k.low;
@@ -148,14 +148,14 @@ working_put v v' name i value refused k low high p = record {
   open_row = rw p.hand k.open_row;
 }
 
-not_refused : (h : Hand) (name : ℕ) → h.open_row ≡ Some (record { name = name; refused = false }) → was_refused h name ≡ false
+pub not_refused : (h : Hand) (name : ℕ) → h.open_row ≡ Some (record { name = name; refused = false }) → was_refused h name ≡ false
 not_refused h name e = ap (is_some_and (λ (o : OpenRow). eqb o.name name && o.refused)) e ∙ by (eqb name name)
   where
     by : (b : Bool) → b && false ≡ false
     by true = refl
     by false = refl
 
-is_refused_row : (h : Hand) (name : ℕ) → h.open_row ≡ Some (record { name = name; refused = true }) → was_refused h name ≡ true
+pub is_refused_row : (h : Hand) (name : ℕ) → h.open_row ≡ Some (record { name = name; refused = true }) → was_refused h name ≡ true
 is_refused_row h name e = ap (is_some_and (λ (o : OpenRow). eqb o.name name && o.refused)) e ∙ by (eqb name name) (eq-eqb name name refl)
   where
     by : (b : Bool) → b ≡ true → b && true ≡ true

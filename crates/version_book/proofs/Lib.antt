@@ -4,3 +4,4 @@ pub mod Setting
 pub mod Puts
 pub mod Begins
 pub mod Ends
+pub mod Endings
