@@ -5,3 +5,4 @@ pub mod Puts
 pub mod Begins
 pub mod Ends
 pub mod Endings
+pub mod Skips
