@@ -3,6 +3,7 @@
 #![tactic(auto)]
 
 pub mod events;
+mod fields;
 pub mod numbers;
 pub mod packing;
 pub mod places;
@@ -10,6 +11,7 @@ pub mod records;
 pub mod states;
 
 pub use events::{Event, Kind, NoMemory, Op, Reply};
+pub use numbers::{bits, ones, trailing_ones, zeros};
 pub use places::{Item, Ref};
 pub use records::{Rec, Sort};
 pub use states::SuspState;
