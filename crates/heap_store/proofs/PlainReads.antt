@@ -11,7 +11,12 @@ use Rattle.lazy_rec.specs.declared.states.SuspState.TheVariants.{Unforced, Claim
 use Rattle.lazy_rec.specs.States.{is_claimed}
 use Rattle.heap_store.specs.declared.claims.HeldClaim.{HeldClaim}
 use Rattle.heap_store.specs.Hand.{contains, claim_places}
-use Rattle.heap_store.specs.Plain.{IsPlain, plain_world, is_claimed_node}
+use Rattle.std.proofs.Common.{◌≤◌, ◌-◌, arith, get_or, zero, suc}
+use Rattle.std.proofs.lemmas.Option.{slice_get-get_or}
+use Rattle.heap_store.specs.Rows.{words_at}
+use Rattle.heap_store.specs.Plain.{IsPlain, plain_world, is_claimed_node, filled_up, no_words}
+use Rattle.heap_store.proofs.ShowLaws.{one_value}
+use Rattle.heap_store.proofs.PlainLists.{filled-within}
 use Rattle.heap_store.proofs.PlainWorlds.{node_read, drawn_there, rec_node, published_rec}
 
 claimed_there : (o : Option Node) → is_claimed_node o ≡ true → (n : Node) × (o ≡ Some n) × (is_claimed n.state ≡ true)
@@ -87,3 +92,12 @@ pub claimed_is : (s : SuspState) → is_claimed s ≡ true → ((g : ℕ) → s 
 claimed_is (Unforced g) h other = true≢false (sym h)
 claimed_is (Claimed g) h other = other g refl
 claimed_is (Done place steps g) h other = true≢false (sym h)
+
+-- the words of a drawn name, as a read of the rows gives them
+pub words_read : (w : World) (row_capacity : ℕ) (rows : List (List ℕ)) (name : ℕ) (ws : List ℕ) → w.rows ≡ filled_up no_words row_capacity rows → 1 ≤ name → name ≤ length rows → ws ≡ get_or rows (name - 1) ws → ws ≡ words_at w name
+words_read w n rows zero ws e low high read = absurd (omega arith)
+words_read w n rows (suc k) ws e low high read =
+    let l : k < length rows = omega arith in
+    let i : suc k - 1 ≡ k = omega arith in
+    let both : get_or rows k [] ≡ get_or rows k ws = one_value _ _ (sym (slice_get-get_or rows k [] l) ∙ slice_get-get_or rows k ws l) in
+    (rw i at read) ∙ sym both ∙ sym (filled-within no_words [] n rows k l) ∙ ap (λ rs. slice_index_or rs k []) (sym e)

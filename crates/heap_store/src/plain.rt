@@ -67,6 +67,40 @@ impl PlainHeap {
     }
 }
 
+impl PlainHeap {
+    ghost use Rattle.std.specs.Prelude.{◌≡◌, ◌<◌, ◌≤◌, length};
+    ghost use Rattle.heap_store.specs.World.{node_at};
+    ghost use Rattle.heap_store.specs.Rows.{words_at};
+    ghost use Rattle.heap_store.specs.Opened.{view_of};
+
+    /// How many rows the store has.
+    pub fn row_count(&self) -> u32
+        ensures { result ≡ length (view_of self.now).seen.rows }
+    {
+        self.row_capacity
+    }
+
+    /// The words of the row of a drawn name.
+    pub fn words(&self, name: u32) -> &[u64; 6]
+        requires low { 1 ≤ name }
+        requires high { name ≤ (view_of self.now).named }
+        ensures { result.now ≡ words_at (view_of self.now).seen name }
+    {
+        &self.rows[name as usize - 1]
+    }
+
+    /// What a place shows, if it is published.
+    pub fn node(&self, place: Ref) -> Option<Node>
+        ensures { result ≡ node_at (view_of self.now).seen place.0 }
+    {
+        if (place.0 as usize) < self.nodes.len() {
+            self.nodes[place.0 as usize]
+        } else {
+            None
+        }
+    }
+}
+
 /// The record of a fresh place.
 const fn fresh(rec: Rec) -> Option<Node>
     ensures { result ≡ fresh_node rec }
