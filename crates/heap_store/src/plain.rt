@@ -13,7 +13,8 @@ use crate::run::Run;
 use lazy_rec::{NoMemory, Rec, Ref, SuspState};
 use std::alloc::Global;
 
-/// The store of one thread. It takes its room when it is opened: no other call asks for memory.
+/// The store of one thread. It takes its room when it is opened: no other call asks for memory. Places and rows are filled
+/// as they are drawn, so a large store that is little used touches little memory.
 #[derive(Drop)]
 pub struct PlainHeap {
     nodes: Vec<Option<Node>>,
@@ -35,7 +36,7 @@ impl PlainHeap {
     ghost use Rattle.std.specs.Prelude.{◌≡◌, ℕ, ◌≤◌, IfOk};
     ghost use Rattle.heap_store.specs.Opened.{view_of, opened_view};
 
-    /// A store of so many places beside the five fixed ones, and of so many rows.
+    /// A store of so many places beside the five fixed ones, and of so many rows. It fails only for want of memory.
     pub fn open(alloc: Global, nodes: u32, rows: u32) -> Result<PlainHeap, NoMemory>
         requires nodes { nodes ≤ 4000000 }
         requires rows { rows ≤ 200000 }
@@ -151,7 +152,7 @@ fn add_free_places(nodes: &mut Vec<Option<Node>>, k: u32)
     }
 }
 
-/// Whether a record is a later suspension of a family.
+/// Whether a record is a later suspension of a family, and not the first one.
 #[inline]
 fn is_later(rec: &Rec) -> bool
     ensures { result ≡ is_later 0 rec.now }
