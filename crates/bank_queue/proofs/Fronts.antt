@@ -1,0 +1,153 @@
+-- What a lawful world says of fronts and rears.
+use Rattle.std.proofs.Common.{◌≡◌, ℕ, zero, suc, ◌+◌, ◌-◌, ◌<◌, ◌≤◌, eqb, refl, sym, ap, ◌∙◌, arith, ⊎_elim, Bool, true, false, cond, not, ◌&&◌, ◌||◌, Option, Some, None, List, [], ◌∷◌, length}
+use Rattle.std.specs.Prelude.{option_and_then, option_map}
+use Rattle.std.specs.List.{AllByRecursion, list_all}
+use Rattle.std.proofs.lemmas.Bool.{true≢false, and_parts, or_cases, or_left, or_right}
+use Rattle.lazy_rec.specs.declared.places.Ref.{Ref}
+use Rattle.lazy_rec.specs.declared.records.Rec.{Rec}
+use Rattle.lazy_rec.specs.declared.records.Rec.TheVariants.{Nil, Cons, LNil, LCons, BankRot}
+use Rattle.lazy_rec.specs.declared.states.SuspState.{SuspState}
+use Rattle.lazy_rec.specs.declared.states.SuspState.TheVariants.{Done}
+use Rattle.lazy_rec.specs.declared.records.Sort.TheVariants as sorts
+use Rattle.lazy_rec.specs.Named.{Records, NamedPlace, named, sort_of, same_sort, at_record, is_pending}
+use Rattle.lazy_rec.specs.States.{kept}
+use Rattle.lazy_rec.specs.Tests.{is_some_and}
+use Rattle.lazy_rec.specs.Meaning.{Entry, an_item, a_child, entry, cells, cells_of}
+use Rattle.heap_store.specs.declared.nodes.Node.{Node}
+use Rattle.heap_store.specs.World.{World, recs, holds, node_at, state_at, done_at, is_done, is_value, value_of, value_at}
+use Rattle.heap_store.specs.Growth.{Grows}
+use Rattle.heap_store.specs.Completion.{plain_of, is_plain}
+use Rattle.heap_store.specs.Lawful.{IsLawful, IsDoneWell, is_item, has_items, is_any_bank_rotation}
+use Rattle.heap_store.proofs.NameLaws.{IsPublished, NamesWell, LooksAtNamed}
+use Rattle.heap_store.proofs.GrowthLaws.{names_of, at_true, done_grows, value_up}
+use Rattle.heap_store.proofs.MeaningLaws.{by_record_is, cells_is, cells_kept}
+use Rattle.bank_queue.specs.Front.{is_front, is_cell_or_end, is_list}
+
+pub law_names : {w : World} → IsLawful w → NamesWell (recs w)
+law_names {w} law = names_of w (λ p r e. (law.each p r e).names)
+
+-- ---- records
+
+-- a test at a place whose record is known
+pub holds_at : {rs : Records} {p : ℕ} {test : Rec → Bool} (r : Rec) → holds rs p test ≡ true → rs p ≡ Some r → test r ≡ true
+holds_at {rs} {p} {test} r h e = let k : at_record false test (Some r) ≡ true = rw e at h in k
+
+pub holds_from : {rs : Records} {p : ℕ} {test : Rec → Bool} (r : Rec) → rs p ≡ Some r → test r ≡ true → holds rs p test ≡ true
+holds_from r e t = rw e t
+
+-- a record that a later world shows at a place of an earlier one
+pub rec_back : {a b : World} {p : ℕ} {r : Rec} → Grows a b → IsPublished (recs a) p → recs b p ≡ Some r → recs a p ≡ Some r
+rec_back {a} {b} {p} {r} g is e = let k = g.records p is.0 is.1 in cc
+
+abbrev pub IsRotation : Rec → Type 0
+IsRotation r = (xs rear : Ref) (left : ℕ) (o : Ref) (off : ℕ) → r ≡ BankRot xs rear left o off → ⊥
+
+pub other_record : (r : Rec) → IsRotation r → is_any_bank_rotation r ≡ false
+other_record (BankRot xs rear left o off) n = absurd (n xs rear left o off refl)
+other_record _ n = refl
+
+pub only_rotations : (r : Rec) → is_any_bank_rotation r ≡ true → IsRotation r → ⊥
+only_rotations r h n = true≢false (sym h ∙ other_record r n)
+
+pub rotation_waits : (r : Rec) → is_any_bank_rotation r ≡ true → is_pending r ≡ true
+rotation_waits (BankRot xs rear left o off) h = refl
+rotation_waits _ h = absurd (true≢false (sym h))
+
+pub value_waits : (r : Rec) → is_cell_or_end r ≡ true → is_pending r ≡ false
+value_waits Nil h = refl
+value_waits (Cons _ _ _) h = refl
+value_waits _ h = absurd (true≢false (sym h))
+
+-- a value of a front's sort
+pub stream_value : (r : Rec) → (not (is_pending r) && same_sort (sort_of r) sorts.Stream) ≡ true → is_cell_or_end r ≡ true
+stream_value Nil h = refl
+stream_value (Cons _ _ _) h = refl
+stream_value _ h = absurd (true≢false (sym h))
+
+-- ---- plain cells
+
+plain_look : LooksAtNamed plain_of
+plain_look (Cons _ _ rest) g h s = s.0
+plain_look _ g h s = refl
+
+pub plain_is : {w : World} → IsLawful w → (p : ℕ) (r : Rec) → recs w p ≡ Some r → is_plain (recs w) p ≡ plain_of (is_plain (recs w)) r
+unfolding is_plain
+plain_is {w} law = by_record_is false plain_of plain_look (recs w) (law_names law)
+
+pub plain_value : (f : ℕ → Bool) (r : Rec) → plain_of f r ≡ true → is_cell_or_end r ≡ true
+plain_value f Nil h = refl
+plain_value f (Cons _ _ _) h = refl
+plain_value f _ h = h
+
+-- a front that is no rotation is a value
+pub front_value : {w : World} → IsLawful w → (p : ℕ) (r : Rec) → recs w p ≡ Some r → is_front (recs w) p ≡ true → is_any_bank_rotation r ≡ false → is_cell_or_end r ≡ true
+front_value {w} law p r e h n = ⊎_elim
+    (λ k. absurd (true≢false (sym (holds_at r k e) ∙ n)))
+    (λ k. plain_value (is_plain (recs w)) r (sym (plain_is law p r e) ∙ k))
+    (or_cases (holds (recs w) p is_any_bank_rotation) (is_plain (recs w) p) h)
+
+-- ---- done places
+
+pub done_of_state : {w : World} {p : ℕ} {s : SuspState} → state_at w p ≡ Some s → done_at w p ≡ kept s
+done_of_state {w} {p} {s} h = go (node_at w p) h
+  where
+    go : (o : Option Node) → option_map (λ (n : Node). n.state) o ≡ Some s → option_and_then (λ (n : Node). kept n.state) o ≡ kept s
+    go None e = cc
+    go (Some n) e = ap (option_and_then kept) e
+
+-- a pending place that is known is done
+pub known_done : {w : World} (p : ℕ) (r : Rec) → recs w p ≡ Some r → is_pending r ≡ true → is_value w p ≡ true → (d : ℕ × ℕ) × (done_at w p ≡ Some d)
+known_done {w} p r e pend h = ⊎_elim
+    (λ k. absurd (not_both (is_pending r) pend (holds_at r k e)))
+    (λ k. go (done_at w p) refl k)
+    (or_cases (holds (recs w) p (λ r. not (is_pending r))) (is_done w p) h)
+  where
+    not_both : (b : Bool) → b ≡ true → not b ≡ true → ⊥
+    not_both true e k = true≢false (sym k)
+    not_both false e k = true≢false (sym e)
+
+    go : (o : Option (ℕ × ℕ)) → done_at w p ≡ o → is_some_and (λ d. true) o ≡ true → (d : ℕ × ℕ) × (done_at w p ≡ Some d)
+    go None e k = absurd (true≢false (sym k))
+    go (Some d) e k = (d, e)
+
+-- the value of a done suspension, and of a value
+pub value_done : {w : World} (p : ℕ) (r : Rec) (d : ℕ × ℕ) → recs w p ≡ Some r → is_pending r ≡ true → done_at w p ≡ Some d → value_at w p ≡ recs w d.0
+value_done p r d e pend f = rw (e, f, pend) refl
+
+pub value_self : {w : World} (p : ℕ) (r : Rec) → recs w p ≡ Some r → is_pending r ≡ false → value_at w p ≡ Some r
+value_self p r e pend = rw (e, pend) refl
+
+-- ---- cells
+
+pub cons_cells : {w : World} → IsLawful w → (p : ℕ) (c : Bool) (v : ℕ) (rest : Ref) → recs w p ≡ Some (Cons c v rest) → cells (recs w) p ≡ entry c v ∷ cells (recs w) rest.0
+cons_cells {w} law p c v rest e = cells_is (recs w) (law_names law) p (Cons c v rest) e
+
+pub list_cells : {w : World} → IsLawful w → (p : ℕ) (c : Bool) (v : ℕ) (rest : Ref) → recs w p ≡ Some (LCons c v rest) → cells (recs w) p ≡ entry c v ∷ cells (recs w) rest.0
+list_cells {w} law p c v rest e = cells_is (recs w) (law_names law) p (LCons c v rest) e
+
+-- entries that are items
+pub item_entry : (c : Bool) (v : ℕ) → is_item (entry c v) ≡ true → c ≡ false
+item_entry true v h = absurd (true≢false (sym h))
+item_entry false v h = refl
+
+-- what a first entry that is an item leaves
+pub record ItemFirst (rs : Records) (c : Bool) (rest : ℕ) : Type 0 where
+  pub is_item : c ≡ false
+  pub others : has_items rs rest ≡ true
+
+pub first_item : {rs : Records} {p rest : ℕ} {c : Bool} {v : ℕ} → has_items rs p ≡ true → cells rs p ≡ entry c v ∷ cells rs rest → ItemFirst rs c rest
+first_item {rs} {p} {rest} {c} {v} h e =
+  let k : (is_item (entry c v) && list_all is_item (cells rs rest)) ≡ true = rw e at h in
+  let q = and_parts (is_item (entry c v)) (list_all is_item (cells rs rest)) k in
+  record { is_item = item_entry c v q.0; others = q.1 }
+
+-- a value with a cell is that cell
+pub some_cell : {w : World} → IsLawful w → (p : ℕ) (r : Rec) → recs w p ≡ Some r → is_cell_or_end r ≡ true → 0 < length (cells (recs w) p) → ((c : Bool) (v : ℕ) (rest : Ref) → r ≡ Cons c v rest → ⊥) → ⊥
+some_cell {w} law p Nil e h some n = let k = cells_is (recs w) (law_names law) p Nil e in let l : 0 < 0 = rw k at some in absurd (omega arith)
+some_cell law p (Cons c v rest) e h some n = n c v rest refl
+some_cell law p _ e h some n = true≢false (sym h)
+
+pub some_list_cell : {w : World} → IsLawful w → (p : ℕ) (r : Rec) → recs w p ≡ Some r → is_list r ≡ true → 0 < length (cells (recs w) p) → ((c : Bool) (v : ℕ) (rest : Ref) → r ≡ LCons c v rest → ⊥) → ⊥
+some_list_cell {w} law p LNil e h some n = let k = cells_is (recs w) (law_names law) p LNil e in let l : 0 < 0 = rw k at some in absurd (omega arith)
+some_list_cell law p (LCons c v rest) e h some n = n c v rest refl
+some_list_cell law p _ e h some n = true≢false (sym h)
