@@ -92,6 +92,30 @@ done_grows {a} {b} x p d h = done_by_state b p ∙ from (state_at a p) refl (sym
     from None e k = cc
     from (Some s) e k = rw (x.done p s e (ap is_some k)) k
 
+-- a place that shows a record shows a state, and the other way round
+pub state_there : (w : World) (p : ℕ) (r : Rec) → recs w p ≡ Some r → (s : SuspState) × (state_at w p ≡ Some s)
+state_there w p r h = go (node_at w p) h
+  where
+    go : (o : Option Node) → option_map (λ (n : Node). n.rec) o ≡ Some r → (s : SuspState) × (option_map (λ (n : Node). n.state) o ≡ Some s)
+    go None e = cc
+    go (Some n) e = (n.state, refl)
+
+pub rec_there : (w : World) (p : ℕ) (s : SuspState) → state_at w p ≡ Some s → (r : Rec) × (recs w p ≡ Some r)
+rec_there w p s h = go (node_at w p) h
+  where
+    go : (o : Option Node) → option_map (λ (n : Node). n.state) o ≡ Some s → (r : Rec) × (option_map (λ (n : Node). n.rec) o ≡ Some r)
+    go None e = cc
+    go (Some n) e = (n.rec, refl)
+
+pub grows_trans : {a b c : World} → Grows a b → Grows b c → Grows a c
+grows_trans {a} {b} {c} g h = record {
+  records = λ p r e. h.records p r (g.records p r e);
+  done = λ p s e k. h.done p s (g.done p s e k) k;
+  given_up = λ p s t e k. (let r = rec_there a p s e in let u = state_there b p r.0 (g.records p r.0 r.1) in omega (arith, g.given_up p s u.0 e u.1, h.given_up p u.0 t u.1 k));
+  begun = λ i e k. h.begun i e (g.begun i e k);
+  ended = λ i r e k. h.ended i r (g.ended i r e k) k;
+}
+
 pub grows_refl : (w : World) → Grows w w
 grows_refl w = record { records = λ p r h. h; done = λ p s h k. h; given_up = λ p s t h k. (let e = one_state s t (sym h ∙ k) in rw e (omega arith)); begun = λ i e h. h; ended = λ i r h k. h }
   where

@@ -6,3 +6,7 @@ pub mod MeaningLaws
 pub mod CompletionLaws
 pub mod MadeLaws
 pub mod RecordLaws
+pub mod Steps
+pub mod ShowLaws
+pub mod LawfulLaws
+pub mod RowLaws

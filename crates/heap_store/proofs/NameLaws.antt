@@ -1,5 +1,5 @@
 -- Facts on named places, and functions that look at named places alone.
-use Rattle.std.specs.Prelude.{◌≡◌, ℕ, ◌<◌, Option, Some, None}
+use Rattle.std.specs.Prelude.{◌≡◌, ℕ, ◌<◌, Some, None}
 use Rattle.std.specs.List.{AllByRecursion}
 use Rattle.lazy_rec.specs.declared.records.Rec.{Rec}
 use Rattle.lazy_rec.specs.Named.{Records, NamedPlace, named, sort_of}

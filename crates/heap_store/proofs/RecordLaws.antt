@@ -3,7 +3,7 @@ use Rattle.std.proofs.Common.{◌≡◌, ℕ, zero, suc, ◌<◌, ◌+◌, ◌*�
 use Rattle.std.specs.Prelude.{option_and_then, is_some}
 use Rattle.std.specs.List.{AllByRecursion, list_all}
 use Rattle.std.proofs.lemmas.Bool.{true≢false, and_parts, or_cases}
-use Rattle.std.proofs.Common.{inl, inr, ◌⊎◌, not, cond, ◌++◌, ◌||◌}
+use Rattle.std.proofs.Common.{inl, inr, ◌⊎◌, not, cond, ◌++◌}
 use Rattle.std.specs.Prelude.{option_map}
 use Rattle.lazy_rec.specs.States.{kept}
 use Rattle.lazy_rec.specs.Tests.{is_some_and}
@@ -20,7 +20,7 @@ use Rattle.lazy_rec.specs.Meaning.{Entry, an_item, a_child, cells, means}
 use Rattle.heap_store.specs.Forest.{is_tree_list}
 use Rattle.heap_store.specs.World.{World, recs, holds, value_at, Keeps}
 use Rattle.heap_store.specs.Completion.{on_queue}
-use Rattle.heap_store.specs.Lawful.{has_sizes, stream_of, is_stream, bank_front_of, is_bank_front, rt_front_of, is_rt_front, is_child, has_children, is_unmixed, is_rotated, is_bank_queue, is_bank_origin, same_entries, walk, rest_of, is_rt_queue, insert_steps_of, insert_steps, is_heap_list, is_heap, is_queue_of_children, is_cat, if_any, level_from, level, level_of, is_of_level, is_finger, has_keys_at, has_keys, keeps_keys, IsDoneWell, cell_places, first_children, link_needs, kids_of, needs, height, height_of, greatest, has_low_names, may_wait, is_any_rt_rotation, keeps_each_kind}
+use Rattle.heap_store.specs.Lawful.{has_sizes, stream_of, is_stream, bank_front_of, is_bank_front, rt_front_of, is_rt_front, is_child, has_children, is_unmixed, is_rotated, is_bank_queue, is_bank_origin, same_entries, walk, rest_of, is_rt_queue, insert_steps_of, insert_steps, is_heap_list, is_heap, is_queue_of_children, is_cat, if_any, level_from, level, level_of, is_of_level, is_finger, has_keys_at, has_keys, keeps_keys, IsDoneWell, cell_places, first_children, link_needs, kids_of, needs, height, height_of, greatest, has_low_names, may_wait}
 use Rattle.lazy_rec.specs.Units.{family_of}
 use Rattle.heap_store.proofs.ByPlaceLaws.{by_place_agree}
 use Rattle.heap_store.proofs.Alls.{All-map}
@@ -301,6 +301,10 @@ module _ (a b : World) (names : NamesWell (recs a)) (x : Grows a b) where
   all_up f g [] up = same_up
   all_up f g (k ∷ ks) up = and_up (up k) (all_up f g ks up)
 
+  implies_up : (c : Bool) {u v : Bool} → Up u v → Up (implies c u) (implies c v)
+  implies_up true f h = f h
+  implies_up false f h = refl
+
   module _ (there : (p : ℕ) (d : ℕ × ℕ) → done_at a p ≡ Some d → IsPublished (recs a) d.0) where
     -- the value of a place that is a value or done is known
     known : (p : ℕ) → is_value a p ≡ true → (v : Rec) × (value_at a p ≡ Some v)
@@ -381,6 +385,25 @@ module _ (a b : World) (names : NamesWell (recs a)) (x : Grows a b) where
         all_values_up : (ps : List ℕ) → Up (list_all (is_value a) ps) (list_all (is_value b) ps)
         all_values_up [] = same_up
         all_values_up (q ∷ qs) = and_up (is_value_up a b x q) (all_values_up qs)
+
+    -- what is done stays well done
+    pub done_well_up : (p : ℕ) (r : Rec) (d : ℕ × ℕ) → recs a p ≡ Some r → IsDoneWell a p r d → IsDoneWell b p r d
+    done_well_up p r d e h =
+        let t = at_true (λ s. not (is_pending s) && same_sort (sort_of s) (sort_of r)) (recs a d.0) h.value in
+        let is : IsPublished (recs a) d.0 = (t.0, t.1) in
+        record {
+          pending = h.pending;
+          value = holds_up a b x d.0 _ _ (λ s. same_up) h.value;
+          needs = needs_up p r e h.needs;
+          made = is_made_up a b names x p r d.0 e is h.made;
+          steps = h.steps;
+          height = rw (← height_kept (recs a) (recs b) names x.records d.0 is, ← height_kept (recs a) (recs b) names x.records p (r, e)) h.height;
+          trees = implies_up (same_sort (sort_of r) sorts.TreeList) (λ k. sym (tree_list_kept (recs a) (recs b) names x.records d.0 is) ∙ k) h.trees;
+          keys = implies_up (same_sort (sort_of r) sorts.Finger) (all_up (λ k. implies (keeps_keys k (recs a) p) (keeps_keys k (recs a) d.0)) (λ k. implies (keeps_keys k (recs b) p) (keeps_keys k (recs b) d.0)) (kinds.Seq ∷ kinds.Prio ∷ kinds.Ord ∷ [])
+              (λ k j. rw (keeps_keys_kept (recs a) (recs b) names x.records k p (r, e), keeps_keys_kept (recs a) (recs b) names x.records k d.0 is) at j)) h.keys;
+          means = sym (means_kept (recs a) (recs b) names x.records d.0 is) ∙ h.means ∙ means_kept (recs a) (recs b) names x.records p (r, e);
+          cells = sym (cells_kept (recs a) (recs b) names x.records d.0 is) ∙ h.cells ∙ cells_kept (recs a) (recs b) names x.records p (r, e);
+        }
 
   child_up : (q : ℕ) → IsPublished (recs a) q → Up (is_child (recs a) (a_child q)) (is_child (recs b) (a_child q))
   child_up q is h = rw (means_kept (recs a) (recs b) names x.records q is) at h

@@ -17,7 +17,7 @@ use Rattle.lazy_rec.specs.Units.{WorkUnit, same_unit, units, units_below, family
 use Rattle.heap_store.specs.declared.nodes.Node.{Node}
 use Rattle.heap_store.specs.declared.claims.HeldClaim.{HeldClaim}
 use Rattle.heap_store.specs.World.{World, recs, is_done, is_taken}
-use Rattle.heap_store.specs.Rows.{Row, row_of, version_at, events_at}
+use Rattle.heap_store.specs.Rows.{Row, row_of, row_at, version_at, events_of}
 use Rattle.heap_store.specs.Lawful.{EachRecord}
 use Rattle.heap_store.specs.LookedAt.{size_of}
 use Rattle.heap_store.specs.Hand.{Hand}
@@ -98,11 +98,11 @@ sum_rows f i (words ∷ rows) = f i words + sum_rows f (suc i) rows
 -- a number of a table by kinds, at the sizes of the versions that a begun row uses; 0 where it isn't begun
 abbrev pub of_based : (Kind → Op → ℕ → ℕ → ℕ) → World → Event → Option Kind → ℕ
 of_based table w e None = 0
-of_based table w e (Some k) = table k e.op (size_of (version_at w e.base)) (size_of (version_at w e.other))
+of_based table w e (Some k) = table k e.op (size_of (version_at (row_at w) e.base)) (size_of (version_at (row_at w) e.other))
 
 abbrev pub of_event : (Kind → Op → ℕ → ℕ → ℕ) → World → Event → Op → ℕ
 of_event table w e (ops.New k) = table k e.op 0 0
-of_event table w e _ = of_based table w e (kind_of (events_at w) e.base)
+of_event table w e _ = of_based table w e (kind_of (events_of (row_at w)) e.base)
 
 abbrev pub of_row : (Kind → Op → ℕ → ℕ → ℕ) → World → Option Row → ℕ
 of_row table w None = 0

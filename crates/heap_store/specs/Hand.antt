@@ -10,7 +10,7 @@ use Rattle.heap_store.specs.declared.claims.HeldClaim.{HeldClaim}
 use Rattle.heap_store.specs.declared.claims.OpenRow.{OpenRow}
 use Rattle.heap_store.specs.Span.{Span}
 use Rattle.heap_store.specs.World.{World, recs, is_published, is_claimed_at, some_record, holds}
-use Rattle.heap_store.specs.Rows.{is_ended_at}
+use Rattle.heap_store.specs.Rows.{row_at, is_ended_at}
 use Rattle.heap_store.specs.Completion.{is_next}
 
 -- the claims from the newest on; the places reserved and not published; the names drawn and not ended; the row that is
@@ -127,5 +127,5 @@ pub record IsLawfulHand (w : World) (h : Hand) : Type 0 where
   pub claims_once : all_distinct (claim_places h.claims) ≡ true
   pub reserved : (p : ℕ) → contains h.reserved p ≡ true → is_published (recs w) p ≡ false
   pub reserved_once : all_distinct h.reserved ≡ true
-  pub names : (i : ℕ) → contains h.names i ≡ true → (1 ≤ i) × (is_ended_at w i ≡ false)
+  pub names : (i : ℕ) → contains h.names i ≡ true → (1 ≤ i) × (is_ended_at (row_at w) i ≡ false)
   pub names_once : all_distinct h.names ≡ true

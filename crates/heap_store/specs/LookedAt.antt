@@ -12,7 +12,7 @@ use Rattle.lazy_rec.specs.Named.{at_record}
 use Rattle.heap_store.specs.declared.versions.Version.{Version}
 use Rattle.heap_store.specs.World.{World, recs, holds, is_value}
 use Rattle.heap_store.specs.Completion.{on_queue, first_cell, elements}
-use Rattle.heap_store.specs.Rows.{Row, answered, version_of, row_at, version_at}
+use Rattle.heap_store.specs.Rows.{Row, answered, version_of, NamedRows, row_at, version_at}
 use Rattle.heap_store.specs.Lawful.{is_root}
 
 -- of the queue of a catenable list's node
@@ -62,12 +62,15 @@ abbrev pub size_of : Option Version → ℕ
 size_of None = 0
 size_of (Some v) = v.size
 
--- the row's event has looked at the root of its base's version
-abbrev pub row_has_looked : World → Event → Reply → Option Version → Bool
-row_has_looked w e reply None = true
-row_has_looked w e reply (Some base) = has_looked w e.op reply base.root.0 (size_of (version_at w e.other))
+-- the row's event has looked at the root of its base's version. (An answered row's base is answered.)
+abbrev pub row_has_looked : World → NamedRows → Event → Reply → Option Version → Bool
+row_has_looked w rows e reply None = true
+row_has_looked w rows e reply (Some base) = has_looked w e.op reply base.root.0 (size_of (version_at rows e.other))
 
 -- the roots of all versions, and what all answered rows have looked at
-pub record HasRoots (w : World) : Type 0 where
-  pub roots : (i : ℕ) (r : Row) → row_at w i ≡ Some r → (v : Version) → version_of r.ending ≡ Some v → holds (recs w) v.root.0 (is_root (recs w) v.kind v.root.0) ≡ true
-  pub looked : (i : ℕ) (r : Row) → row_at w i ≡ Some r → (told : Reply) (v : Version) → r.ending ≡ answered told v → row_has_looked w r.event told (version_at w r.event.base) ≡ true
+pub record RootsOf (w : World) (rows : NamedRows) : Type 0 where
+  pub roots : (i : ℕ) (r : Row) → rows i ≡ Some r → (v : Version) → version_of r.ending ≡ Some v → holds (recs w) v.root.0 (is_root (recs w) v.kind v.root.0) ≡ true
+  pub looked : (i : ℕ) (r : Row) → rows i ≡ Some r → (told : Reply) (v : Version) → r.ending ≡ answered told v → row_has_looked w rows r.event told (version_at rows r.event.base) ≡ true
+
+abbrev pub HasRoots : World → Type 0
+HasRoots w = RootsOf w (row_at w)

@@ -84,7 +84,7 @@ pub record MayStore (v : View) (name i value : ℕ) : Type 0 where
   -- with the word the rows are legal, and where it ends a row its base was looked at
   pub legal : IsLegal (store_word v.seen name i value)
   pub roots : HasRoots (store_word v.seen name i value)
-  pub plan : FollowsPlan v.about.plan (store_word v.seen name i value)
+  pub plan : FollowsPlan v.about.plan (row_at (store_word v.seen name i value))
   pub plan_words : (events : List Event) → v.about.plan ≡ Some events → (e : Event) → event_of events name ≡ Some e → (i ≡ 1 → value ≡ e.base + 4294967296 * e.other) × (i ≡ 2 → value ≡ e.arg)
 
 abbrev pub hand_stored : Hand → ℕ → ℕ → ℕ → Hand

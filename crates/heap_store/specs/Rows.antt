@@ -135,18 +135,22 @@ abbrev pub store_word : World → ℕ → ℕ → ℕ → World
 store_word w zero i value = w
 store_word w (suc k) i value = record w { rows = slice_set w.rows k (slice_set (slice_index_or w.rows k []) i value) }
 
-abbrev pub version_at : World → ℕ → Option Version
-version_at w i = option_and_then (λ r. version_of r.ending) (row_at w i)
+-- the row of each name, none where word 0 isn't stored
+abbrev pub NamedRows : Type 0
+NamedRows = ℕ → Option Row
 
-abbrev pub is_answered : World → ℕ → Bool
-is_answered w i = is_some_and (λ _. true) (version_at w i)
+abbrev pub version_at : NamedRows → ℕ → Option Version
+version_at rows i = option_and_then (λ (r : Row). version_of r.ending) (rows i)
 
-abbrev pub is_given_up : World → ℕ → Bool
-is_given_up w i = is_some_and (λ r. is_refused r.ending) (row_at w i)
+abbrev pub is_answered : NamedRows → ℕ → Bool
+is_answered rows i = is_some_and (λ _. true) (version_at rows i)
 
-abbrev pub is_ended_at : World → ℕ → Bool
-is_ended_at w i = is_some_and (λ r. is_ended r.ending) (row_at w i)
+abbrev pub is_given_up : NamedRows → ℕ → Bool
+is_given_up rows i = is_some_and (λ (r : Row). is_refused r.ending) (rows i)
+
+abbrev pub is_ended_at : NamedRows → ℕ → Bool
+is_ended_at rows i = is_some_and (λ (r : Row). is_ended r.ending) (rows i)
 
 -- the event of each name whose word 0 is stored
-abbrev pub events_at : World → ℕ → Option Event
-events_at w i = option_map (λ r. r.event) (row_at w i)
+abbrev pub events_of : NamedRows → ℕ → Option Event
+events_of rows i = option_map (λ (r : Row). r.event) (rows i)

@@ -18,6 +18,6 @@ hand_count test g = sum_by (λ (h : Hand). one_if (test h)) g.hands
 pub record IsShared (given named : ℕ) (g : Running) : Type 0 where
   pub claims : (s : ℕ) → hand_count (λ h. holds_claim h s) g ≡ one_if (is_claimed_at g.world s)
   pub reserved : (p : ℕ) → 5 ≤ p → p < 5 + given → hand_count (λ h. contains h.reserved p) g + one_if (is_published (recs g.world) p) ≡ 1
-  pub names : (i : ℕ) → 1 ≤ i → i ≤ named → hand_count (λ h. contains h.names i) g + one_if (is_ended_at g.world i) ≡ 1
+  pub names : (i : ℕ) → 1 ≤ i → i ≤ named → hand_count (λ h. contains h.names i) g + one_if (is_ended_at (row_at g.world) i) ≡ 1
   pub drawn : (i : ℕ) (r : Row) → row_at g.world i ≡ Some r → i ≤ named
-  pub plan : FollowsPlan g.plan g.world
+  pub plan : FollowsPlan g.plan (row_at g.world)

@@ -63,14 +63,14 @@ pub record IsLawfulView (v : View) : Type 0 where
   pub world : IsLawful v.seen
   pub legal : IsLegal v.seen
   pub roots : HasRoots v.seen
-  pub plan : FollowsPlan v.about.plan v.seen
+  pub plan : FollowsPlan v.about.plan (row_at v.seen)
   pub hand : IsLawfulHand v.seen v.hand
   pub places : published_count v.seen + length v.hand.reserved ≤ fixed_places + v.about.capacity
   pub drawn : v.about.alone ≡ true → published_count v.seen + length v.hand.reserved ≡ fixed_places + v.drawn
   pub room : v.about.alone ≡ true → v.drawn ≤ v.about.capacity
   pub claimed : v.about.alone ≡ true → (s : ℕ) → is_claimed_at v.seen s ≡ true → holds_claim v.hand s ≡ true
   pub unnamed : v.about.alone ≡ true → (i : ℕ) → v.named < i → row_at v.seen i ≡ None
-  pub names : v.about.alone ≡ true → (i : ℕ) → 1 ≤ i → i ≤ v.named → is_ended_at v.seen i ≡ false → contains v.hand.names i ≡ true
+  pub names : v.about.alone ≡ true → (i : ℕ) → 1 ≤ i → i ≤ v.named → is_ended_at (row_at v.seen) i ≡ false → contains v.hand.names i ≡ true
   pub rows : v.about.alone ≡ true → v.named ≤ v.about.rows
 
 -- ---- what the calls do
