@@ -20,12 +20,10 @@ use Rattle.heap_store.specs.Growth.{Grows}
 use Rattle.heap_store.specs.Completion.{plain_of, is_plain}
 use Rattle.heap_store.specs.Lawful.{IsLawful, IsDoneWell, is_item, has_items, is_any_bank_rotation}
 use Rattle.heap_store.proofs.NameLaws.{IsPublished, NamesWell, LooksAtNamed}
-use Rattle.heap_store.proofs.GrowthLaws.{names_of, at_true, done_grows, value_up}
+use Rattle.heap_store.proofs.LawfulLaws.{lawful_names}
+use Rattle.heap_store.proofs.GrowthLaws.{at_true, done_grows, value_up}
 use Rattle.heap_store.proofs.MeaningLaws.{by_record_is, cells_is, cells_kept}
 use Rattle.bank_queue.specs.Front.{is_front, is_cell_or_end, is_list}
-
-pub law_names : {w : World} → IsLawful w → NamesWell (recs w)
-law_names {w} law = names_of w (λ p r e. (law.each p r e).names)
 
 -- ---- records
 
@@ -80,7 +78,7 @@ plain_look _ g h s = refl
 
 pub plain_is : {w : World} → IsLawful w → (p : ℕ) (r : Rec) → recs w p ≡ Some r → is_plain (recs w) p ≡ plain_of (is_plain (recs w)) r
 unfolding is_plain
-plain_is {w} law = by_record_is false plain_of plain_look (recs w) (law_names law)
+plain_is {w} law = by_record_is false plain_of plain_look (recs w) (lawful_names law)
 
 pub plain_value : (f : ℕ → Bool) (r : Rec) → plain_of f r ≡ true → is_cell_or_end r ≡ true
 plain_value f Nil h = refl
@@ -128,10 +126,10 @@ value_self w p r e pend = rw (e, pend) refl
 -- ---- cells
 
 pub cons_cells : {w : World} → IsLawful w → (p : ℕ) (c : Bool) (v : ℕ) (rest : Ref) → recs w p ≡ Some (Cons c v rest) → cells (recs w) p ≡ entry c v ∷ cells (recs w) rest.0
-cons_cells {w} law p c v rest e = cells_is (recs w) (law_names law) p (Cons c v rest) e
+cons_cells {w} law p c v rest e = cells_is (recs w) (lawful_names law) p (Cons c v rest) e
 
 pub list_cells : {w : World} → IsLawful w → (p : ℕ) (c : Bool) (v : ℕ) (rest : Ref) → recs w p ≡ Some (LCons c v rest) → cells (recs w) p ≡ entry c v ∷ cells (recs w) rest.0
-list_cells {w} law p c v rest e = cells_is (recs w) (law_names law) p (LCons c v rest) e
+list_cells {w} law p c v rest e = cells_is (recs w) (lawful_names law) p (LCons c v rest) e
 
 -- entries that are items
 pub item_entry : (c : Bool) (v : ℕ) → is_item (entry c v) ≡ true → c ≡ false
@@ -151,12 +149,12 @@ first_item rs p rest c v h e =
 
 -- a value with a cell is that cell
 pub some_cell : {w : World} → IsLawful w → (p : ℕ) (r : Rec) → recs w p ≡ Some r → is_cell_or_end r ≡ true → 0 < length (cells (recs w) p) → ((c : Bool) (v : ℕ) (rest : Ref) → r ≡ Cons c v rest → ⊥) → ⊥
-some_cell {w} law p Nil e h some n = let k = cells_is (recs w) (law_names law) p Nil e in let l : 0 < 0 = rw k at some in absurd (omega arith)
+some_cell {w} law p Nil e h some n = let k = cells_is (recs w) (lawful_names law) p Nil e in let l : 0 < 0 = rw k at some in absurd (omega arith)
 some_cell law p (Cons c v rest) e h some n = n c v rest refl
 some_cell law p _ e h some n = true≢false (sym h)
 
 pub some_list_cell : {w : World} → IsLawful w → (p : ℕ) (r : Rec) → recs w p ≡ Some r → is_list r ≡ true → 0 < length (cells (recs w) p) → ((c : Bool) (v : ℕ) (rest : Ref) → r ≡ LCons c v rest → ⊥) → ⊥
-some_list_cell {w} law p LNil e h some n = let k = cells_is (recs w) (law_names law) p LNil e in let l : 0 < 0 = rw k at some in absurd (omega arith)
+some_list_cell {w} law p LNil e h some n = let k = cells_is (recs w) (lawful_names law) p LNil e in let l : 0 < 0 = rw k at some in absurd (omega arith)
 some_list_cell law p (LCons c v rest) e h some n = n c v rest refl
 some_list_cell law p _ e h some n = true≢false (sym h)
 
@@ -219,7 +217,7 @@ done_front {a} {b} law law2 g p xs rear left o off e known some items place step
   let same : d.0.0 ≡ place.0 = ap (elim [ None ↦ 0 | Some k ↦ k.0 ]) (sym later ∙ now) in
   let k = done_place law p xs rear left o off e d.0 d.1 in
   let t = at_true is_cell_or_end (recs a d.0.0) k.there in
-  let c = sym (cells_kept (recs a) (recs b) (law_names law) g.records d.0.0 (t.0, t.1)) ∙ k.cells in
+  let c = sym (cells_kept (recs a) (recs b) (lawful_names law) g.records d.0.0 (t.0, t.1)) ∙ k.cells in
   rw (← same) (record {
     value = k.value;
     there = (t.0, t.1);
@@ -252,7 +250,7 @@ pub record ValueFront (a b : World) (p : ℕ) (r : Rec) : Type 0 where
 pub value_front : {a b : World} → IsLawful a → Grows a b → (p : ℕ) (r : Rec) → recs a p ≡ Some r → is_front (recs a) p ≡ true → 0 < length (cells (recs a) p) → has_items (recs a) p ≡ true → IsRotation r → ValueFront a b p r
 value_front {a} {b} law g p r e front some items n =
   let v = front_value law p r e front (other_record r n) in
-  let c = cells_kept (recs a) (recs b) (law_names law) g.records p (r, e) in
+  let c = cells_kept (recs a) (recs b) (lawful_names law) g.records p (r, e) in
   record {
     waits = value_waits r v;
     some = rw c at some;

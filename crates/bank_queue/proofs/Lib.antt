@@ -1,1 +1,3 @@
 pub mod Fronts
+pub mod Heights
+pub mod Cells
