@@ -260,3 +260,10 @@ value_front {a} {b} law g p r e front some items n =
 
 pub found_value : {a b : World} → IsLawful a → Grows a b → (p : ℕ) (r : Rec) → recs a p ≡ Some r → ValueFront a b p r → (s : Rec) → recs b p ≡ Some s → value_at a p ≡ Some s
 found_value {a} {b} law g p r e k s f = let same = rec_back law p s g (r, e) f in value_self a p r e k.waits ∙ sym e ∙ same
+
+-- a front has the sort of streams
+pub front_sort : {w : World} → IsLawful w → (p : ℕ) → is_front (recs w) p ≡ true → (r : Rec) → recs w p ≡ Some r → sort_of r ≡ sorts.Stream
+front_sort {w} law p h (BankRot xs rear left o off) e = refl
+front_sort {w} law p h Nil e = refl
+front_sort {w} law p h (Cons c v rest) e = refl
+front_sort {w} law p h r e = absurd (true≢false (sym (front_value law p r e h refl)))

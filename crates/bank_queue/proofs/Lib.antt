@@ -1,3 +1,6 @@
 pub mod Fronts
 pub mod Heights
 pub mod Cells
+pub mod Puts
+pub mod Rotations
+pub mod Reversals
