@@ -23,7 +23,6 @@ pub fn prepare_event<H: Heap>(h: &mut H, job: &EventJob, cursor: &mut Cursor) ->
     ensures cursor { cursor.new ≡ cursor.old }
     ensures answer { EventPrepared is_any_bank_rotation IsReadyEvent (H.view h.new).seen job.now result }
 {
-    let _cursor = cursor;
     let top = read_top(h, job.base.root);
     let ready = Prep::Ready {
         nodes: places(job.op, &top),
@@ -43,7 +42,6 @@ pub fn build_event<H: Heap>(h: &mut H, job: &EventJob, cursor: &Cursor, run: &mu
     requires build { IsEventBuildable IsReadyEvent (H.view h.old) job.now run.old }
     ensures { IsEventBuilt (H.view h.old) (H.view h.new) job.now run.old run.new result }
 {
-    let _cursor = cursor;
     match job.op {
         Op::Snoc => snoc(h, job, run),
         Op::Tail => tail(h, job, run),
@@ -156,7 +154,6 @@ fn head<H: Heap>(h: &mut H, job: &EventJob, run: &mut Run) -> After
     requires build { IsEventBuildable IsReadyEvent (H.view h.old) job.now run.old }
     ensures { IsEventBuilt (H.view h.old) (H.view h.new) job.now run.old run.new result }
 {
-    let _run = run;
     let top = read_top(h, job.base.root);
     if top.lenf == 0 {
         return same(&job.base, Reply::Empty);

@@ -19,7 +19,6 @@ pub fn prepare<H: Heap>(rec: &Rec, h: &mut H, s: Ref, cursor: &mut Cursor) -> Pr
     ensures cursor { cursor_fits (H.view h.new).seen s.0 cursor.new ≡ true }
     ensures answer { Prepared is_any_bank_rotation (H.view h.new).seen s.0 result }
 {
-    let _cursor = cursor;
     match *rec {
         Rec::BankRot { xs, left, off, .. } => {
             if left == 0 {
@@ -42,7 +41,6 @@ pub fn build<H: Heap>(rec: &Rec, h: &mut H, s: Ref, cursor: &Cursor, run: &mut R
     requires build { IsBuildable (H.view h.old) s run.old }
     ensures { IsBuilt (H.view h.old) (H.view h.new) s.0 run.old run.new result.place.0 result.steps }
 {
-    let _cursor = cursor;
     match *rec {
         Rec::BankRot {
             xs,

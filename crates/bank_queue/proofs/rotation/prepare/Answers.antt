@@ -1,10 +1,8 @@
 use Rattle.std.proofs.Common.{◌≡◌, ◌+◌, ℕ, refl, arith, sym, ap, ◌∙◌, Some}
 use Rattle.lazy_rec.specs.declared.records.Rec.TheVariants.{BankRot}
 use Rattle.heap_store.specs.World.{recs}
-use Rattle.heap_store.proofs.GrowthLaws.{grows_refl}
-use Rattle.bank_queue.proofs.Fronts.{only_rotations}
 use Rattle.bank_queue.proofs.Puts.{RotationWell, rotation_well}
-use Rattle.bank_queue.proofs.Rotations.{ready_next, ready_last, need_next, cursor_stays}
+use Rattle.bank_queue.proofs.Rotations.{ready_next, need_next}
 use Rattle.bank_queue.proofs.rotation.prepare.Goals as goal
 use Rattle.bank_queue.proofs.rotation.prepare.Goals.{In-BankRot}
 
@@ -19,3 +17,13 @@ overflow_add-result g c = omega (arith, (parts g (goal.at.overflow_add-result g 
 
 pub is_known-requires : goal.is_known-requires
 is_known-requires g c = (parts g (goal.at.is_known-requires g c).In-BankRot).front
+
+pub returns-then-is_known-clause-answer : goal.returns-then-is_known-clause-answer
+returns-then-is_known-clause-answer g c =
+  let r = c.in-BankRot in
+  ready_next (g.met.H.Heap.lawful c.is_known.new.h).world c.args.s.0 r.xs r.rear r.left r.origin r.off (omega arith) (c.is_known.ensures.quiet.grows.records _ _ (here g (goal.at.returns-then-is_known-clause-answer g c).In-BankRot)) (c.is_known.ensures.known c.if-is_known.true)
+
+pub returns-else-is_known-clause-answer : goal.returns-else-is_known-clause-answer
+returns-else-is_known-clause-answer g c =
+  let r = c.in-BankRot in
+  need_next (g.met.H.Heap.lawful c.is_known.new.h).world c.args.s.0 r.xs r.rear r.left r.origin r.off (omega arith) (c.is_known.ensures.quiet.grows.records _ _ (here g (goal.at.returns-else-is_known-clause-answer g c).In-BankRot)) (c.is_known.ensures.rotation c.if-is_known.false) (c.is_known.ensures.not_done c.if-is_known.false)
