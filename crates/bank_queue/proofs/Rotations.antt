@@ -15,9 +15,10 @@ use Rattle.heap_store.specs.Growth.{Grows}
 use Rattle.heap_store.specs.Completion.{on_cell, is_cell, is_made, next_bank_rotation, same_bool}
 use Rattle.heap_store.specs.Lawful.{IsLawful, IsDoneWell, is_any_bank_rotation, needs, height}
 use Rattle.heap_store.specs.Span.{Span}
-use Rattle.heap_store.specs.View.{View, MayComplete}
-use Rattle.heap_store.specs.Jobs.{IsReady, IsNeed, IsWork, IsBuildable, exact_places, cursor_fits}
-use Rattle.heap_store.proofs.GrowthLaws.{at_true, is_value_up}
+use Rattle.heap_store.specs.View.{View, Quiet, MayComplete}
+use Rattle.heap_store.specs.Jobs.{IsReady, IsNeed, IsWork, IsBuildable, IsBuilt, exact_places, cursor_fits}
+use Rattle.heap_store.proofs.GrowthLaws.{at_true, grows_trans, is_value_up}
+use Rattle.heap_store.proofs.Steps.{quiet_Filled}
 use Rattle.heap_store.proofs.ShowLaws.{one_value}
 use Rattle.heap_store.proofs.LawfulLaws.{lawful_names}
 use Rattle.heap_store.proofs.MeaningLaws.{cells_is, means_is, cells_kept}
@@ -172,3 +173,14 @@ done_next {w} law s q xs rear left o off value rest next pos e known h e1 e2 r f
     means = same_means law s q xs rear left o off _ e e2 (λ g. refl) all;
     cells = all
   })
+
+-- ---- more of the world may be seen before a build
+
+pub buildable_quiet : {v w : View} {s : Ref} {run : Span} → IsBuildable v s run → Quiet v w → IsBuildable w s run
+buildable_quiet b q = record {
+  base = b.base; base_lawful = b.base_lawful; base_grows = grows_trans b.base_grows q.grows; nodes = b.nodes;
+  ready = b.ready; above = b.above; size = b.size; held = rw q.hand b.held; newest = rw q.hand b.newest
+}
+
+pub quiet_built : {a b c : View} {s : ℕ} {before after : Span} {place steps : ℕ} → Quiet a b → IsBuilt b c s before after place steps → IsBuilt a c s before after place steps
+quiet_built q k = record { filled = quiet_Filled q k.filled; spent = k.spent; value = k.value; small = k.small }
