@@ -4,3 +4,5 @@ pub mod Cells
 pub mod Puts
 pub mod Rotations
 pub mod Reversals
+pub mod Entries
+pub mod Queues
