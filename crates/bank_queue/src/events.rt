@@ -108,8 +108,8 @@ fn snoc<H: Heap>(h: &mut H, job: &EventJob, run: &mut Run) -> After
     if job.base.size == MOST_ITEMS {
         return same(&job.base, Reply::TooLong);
     }
-    let mut top = read_top(h, job.base.root);
-    top.rear = h.put(
+    let top = read_top(h, job.base.root);
+    let rear = h.put(
         run,
         Rec::LCons {
             child: false,
@@ -117,8 +117,12 @@ fn snoc<H: Heap>(h: &mut H, job: &EventJob, run: &mut Run) -> After
             rest: top.rear,
         },
     );
-    top.lenr += 1;
-    let root = put_top(h, top, run);
+    let longer = Top {
+        rear,
+        lenr: top.lenr + 1,
+        ..top
+    };
+    let root = put_top(h, longer, run);
     After::End {
         root,
         size: job.base.size + 1,
@@ -132,15 +136,18 @@ fn tail<H: Heap>(h: &mut H, job: &EventJob, run: &mut Run) -> After
     requires build { IsEventBuildable IsReadyEvent (H.view h.old) job.now run.old }
     ensures { IsEventBuilt (H.view h.old) (H.view h.new) job.now run.old run.new result }
 {
-    let mut top = read_top(h, job.base.root);
+    let top = read_top(h, job.base.root);
     if top.lenf == 0 {
         return same(&job.base, Reply::Empty);
     }
     let cell = first_cell(h, top.front);
-    top.front = cell.rest;
-    top.lenf -= 1;
-    top.tails += 1;
-    let root = put_top(h, top, run);
+    let shorter = Top {
+        front: cell.rest,
+        lenf: top.lenf - 1,
+        tails: top.tails + 1,
+        ..top
+    };
+    let root = put_top(h, shorter, run);
     After::End {
         root,
         size: job.base.size - 1,
