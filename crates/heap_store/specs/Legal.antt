@@ -6,6 +6,7 @@ use Rattle.lazy_rec.specs.declared.events.Kind.{Kind}
 use Rattle.lazy_rec.specs.declared.events.Kind.TheVariants as kinds
 use Rattle.lazy_rec.specs.declared.events.Event.{Event}
 use Rattle.lazy_rec.specs.declared.events.Reply.{Reply}
+use Rattle.lazy_rec.specs.declared.events.Reply.TheVariants.{Number}
 use Rattle.lazy_rec.specs.Tests.{is_some_and}
 use Rattle.lazy_rec.specs.Kinds.{bases, same_kind, is_trim}
 use Rattle.lazy_rec.specs.Plain.{rising}
@@ -35,9 +36,14 @@ in_order _ xs = xs
 abbrev pub is_version_well : Records → NamedRows → ℕ → Version → Bool
 is_version_well rs rows i v = is_some_and (same_kind v.kind) (kind_of (events_of rows) i) && eqb v.size (length (plain (events_of rows) i)) && holds rs v.root.0 (λ r. not (is_pending r))
 
--- a full row has numbers that a store can show
+abbrev pub reply_in_range : Reply → Bool
+reply_in_range (Number n) = ltb n 4294967296
+reply_in_range _ = true
+
+-- a full row has numbers that a store can show, and an answered one a reply of 32 bits
 abbrev pub ending_in_range : Ending → Bool
 ending_in_range (full drawn wanted) = leb drawn 260000000 && ltb 0 wanted
+ending_in_range (answered reply v) = reply_in_range reply && ltb v.size 2147483648
 ending_in_range _ = true
 
 -- a caller's number is below 64

@@ -20,6 +20,8 @@ pub record Named (old new : View) (name : ℕ) : Type 0 where
   pub low : 1 ≤ name
   pub high : name ≤ old.about.rows
   pub unseen : (i : ℕ) (r : Row) → row_at old.seen i ≡ Some r → i < name
+  -- nobody has stored a word of it
+  pub empty : (j : ℕ) → word_at new.seen name j ≡ 0
   pub hand : new.hand ≡ hand_named old.hand name
   pub about : new.about ≡ old.about
   pub refusals : new.refusals ≡ old.refusals

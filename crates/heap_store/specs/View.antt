@@ -14,7 +14,7 @@ use Rattle.heap_store.specs.declared.claims.Claim.TheVariants as answers
 use Rattle.heap_store.specs.declared.claims.Full.{Full}
 use Rattle.heap_store.specs.Span.{Span}
 use Rattle.heap_store.specs.World.{World, recs, state_at, done_at, is_claimed_at, show, fixed_places}
-use Rattle.heap_store.specs.Rows.{row_at, is_ended_at}
+use Rattle.heap_store.specs.Rows.{row_at, words_at, is_ended_at}
 use Rattle.heap_store.specs.Growth.{Grows}
 use Rattle.heap_store.specs.Legal.{IsLegal, FollowsPlan}
 use Rattle.heap_store.specs.Lawful.{HasLaws, IsLawful, IsDoneWell, has_origin}
@@ -65,6 +65,7 @@ pub record IsLawfulView (v : View) : Type 0 where
   pub roots : HasRoots v.seen
   pub plan : FollowsPlan v.about.plan (row_at v.seen)
   pub hand : IsLawfulHand v.seen v.hand
+  pub words : (i : ℕ) → 1 ≤ i → i ≤ v.about.rows → length (words_at v.seen i) ≡ 6
   pub places : published_count v.seen + length v.hand.reserved ≤ fixed_places + v.about.capacity
   pub drawn : v.about.alone ≡ true → published_count v.seen + length v.hand.reserved ≡ fixed_places + v.drawn
   pub room : v.about.alone ≡ true → v.drawn ≤ v.about.capacity

@@ -1,0 +1,3 @@
+pub mod Words
+pub mod Book
+pub mod Closed
