@@ -38,7 +38,7 @@ use Rattle.bank_queue.proofs.Cells.{FirstCell, front_first}
 
 -- a place in hand is one of the store's
 pub place_fits : {v : View} → IsLawfulView v → (p : ℕ) → contains v.hand.reserved p ≡ true → p < 4194304
-place_fits {v} law p held = ?
+place_fits {v} law p held = law.reserved_low p held
 
 -- a record put at a place in hand takes no other's place
 pub put_keeps : {v : View} → IsLawfulView v → (p : ℕ) → contains v.hand.reserved p ≡ true → (r : Rec) → Keeps (recs v.seen) (recs (show v.seen p r (Unforced 0)))
