@@ -29,21 +29,21 @@ is_known-requires g c = (later g (goal.at.is_known-requires g c).After-read_top-
 
 pub returns-then-not-looks-clause-answer : goal.returns-then-not-looks-clause-answer
 returns-then-not-looks-clause-answer g c =
-  let d = goal.at.returns-then-not-looks-clause-answer g c in
-  ready_event (g.met.H.Heap.lawful c.read_top-top.new.h).world c.args.job.now c.requires.kind c.read_top-top.result (here g d.After-read_top-top) c.places.result c.places.ensures (λ h. absurd (true≢false (sym h ∙ (sym c.looks.ensures ∙ c.if-not-looks.true))))
+    let d = goal.at.returns-then-not-looks-clause-answer g c in
+    ready_event (g.met.H.Heap.lawful c.read_top-top.new.h).world c.args.job.now c.requires.kind c.read_top-top.result (here g d.After-read_top-top) c.places.result c.places.ensures (λ h. absurd (true≢false (sym h ∙ (sym c.looks.ensures ∙ c.if-not-looks.true))))
 
 pub returns-then-is_known-clause-quiet : goal.returns-then-is_known-clause-quiet
 returns-then-is_known-clause-quiet g c = Quiet_trans c.read_top-top.ensures.quiet c.is_known.ensures.quiet
 
 pub returns-then-is_known-clause-answer : goal.returns-then-is_known-clause-answer
 returns-then-is_known-clause-answer g c =
-  let d = goal.at.returns-then-is_known-clause-answer g c in
-  ready_event (g.met.H.Heap.lawful c.is_known.new.h).world c.args.job.now c.requires.kind c.read_top-top.result (c.is_known.ensures.quiet.grows.records _ _ (here g d.After-read_top-top)) c.places.result c.places.ensures (λ h. c.is_known.ensures.known c.if-is_known.true)
+    let d = goal.at.returns-then-is_known-clause-answer g c in
+    ready_event (g.met.H.Heap.lawful c.is_known.new.h).world c.args.job.now c.requires.kind c.read_top-top.result (c.is_known.ensures.quiet.grows.records _ _ (here g d.After-read_top-top)) c.places.result c.places.ensures (λ h. c.is_known.ensures.known c.if-is_known.true)
 
 pub returns-else-is_known-clause-quiet : goal.returns-else-is_known-clause-quiet
 returns-else-is_known-clause-quiet g c = Quiet_trans c.read_top-top.ensures.quiet c.is_known.ensures.quiet
 
 pub returns-else-is_known-clause-answer : goal.returns-else-is_known-clause-answer
 returns-else-is_known-clause-answer g c =
-  let d = goal.at.returns-else-is_known-clause-answer g c in
-  event_need (g.met.H.Heap.lawful c.is_known.new.h).world c.args.job.now c.requires.kind c.read_top-top.result (c.is_known.ensures.quiet.grows.records _ _ (here g d.After-read_top-top)) (sym c.looks.ensures ∙ c.if-not-looks.false) (c.is_known.ensures.rotation c.if-is_known.false) (c.is_known.ensures.not_done c.if-is_known.false)
+    let d = goal.at.returns-else-is_known-clause-answer g c in
+    event_need (g.met.H.Heap.lawful c.is_known.new.h).world c.args.job.now c.requires.kind c.read_top-top.result (c.is_known.ensures.quiet.grows.records _ _ (here g d.After-read_top-top)) (sym c.looks.ensures ∙ c.if-not-looks.false) (c.is_known.ensures.rotation c.if-is_known.false) (c.is_known.ensures.not_done c.if-is_known.false)
