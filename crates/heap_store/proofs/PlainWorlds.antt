@@ -124,6 +124,11 @@ module _ (capacity row_capacity : ℕ) (nodes : List (Option Node)) (claims : Li
         hand = lawful_hand open_row;
         words = words_six;
         places = omega (arith, counted, all, h.fits);
+        published_low = λ p is. (
+            let t = published_rec (recs (plain_world capacity row_capacity nodes rows)) p (λ _. true) is in
+            let n = rec_node (plain_world capacity row_capacity nodes rows) p t.0 t.1 in
+            omega (arith, drawn_there capacity row_capacity nodes rows p n.0 n.1, h.fits, h.small));
+        reserved_low = λ p m. omega (arith, (free_unpublished p m).0, h.fits, h.small);
         drawn = λ _. omega (arith, counted, all, fixed_drawn);
         room = λ _. omega (arith, h.fits);
         claimed = λ _ s e. h.seen.held s ∙ e;
