@@ -6,3 +6,4 @@ pub mod Begins
 pub mod Ends
 pub mod Endings
 pub mod Skips
+pub mod Works
