@@ -17,4 +17,5 @@ pub mod PlainSteps
 pub mod PlainReads
 pub mod PlainRows
 pub mod PlainOpen
+pub mod PlainTests
 pub mod HistoryLaws

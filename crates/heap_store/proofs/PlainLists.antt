@@ -1,7 +1,7 @@
 -- Lists of claims, free places and open names.
-use Rattle.std.proofs.Common.{◌≡◌, ◌≢◌, ℕ, zero, suc, ◌+◌, ◌-◌, ◌<◌, ◌≤◌, Bool, true, false, List, [], ◌∷◌, ◌++◌, length, reverse, replicate, Option, Some, None, refl, sym, ap, ◌∙◌, arith, subst, ◌⊎◌, inl, inr, ⊎_elim, cond, not, ◌&&◌, ◌||◌, eqb, leb, ltb}
+use Rattle.std.proofs.Common.{◌≡◌, ◌≢◌, ℕ, zero, suc, ◌+◌, ◌-◌, ◌<◌, ◌≤◌, Bool, true, false, List, [], ◌∷◌, ◌++◌, length, reverse, replicate, Option, Some, None, refl, sym, ap, ◌∙◌, arith, subst, ⊎_elim, cond, ◌||◌, eqb}
 use Rattle.std.specs.Prelude.{filter, count_by, slice_set, slice_index_or}
-use Rattle.std.specs.List.{list_all, list_any}
+use Rattle.std.specs.List.{list_all}
 use Rattle.std.proofs.lemmas.Grind.{common_steps}
 use Rattle.std.proofs.lemmas.Bool.{cases_eq, cases_lt, true≢false, or_left, or_right, eq-eqb}
 use Rattle.std.proofs.lemmas.List.{get_or_append_left, get_or-append_right, get_or_past, get_or-replicate, set-append_left, length-append, length-replicate, length-set, replicate-append-replicate, append_assoc, reverse-append, length-reverse}
@@ -170,7 +170,7 @@ free-filled p zero (Some m ∷ xs) n l h = cc
 free-filled p (suc j) (None ∷ xs) n l h =
     let e : p + suc j ≡ suc p + j = omega arith in
     subst (λ z. p ∷ free_places (suc p) (slice_set xs j (Some n)) ≡ without z (z + 1) (p ∷ free_places (suc p) xs)) (sym e)
-      (ap (λ z. p ∷ z) (free-filled (suc p) j xs n (omega arith) h) ∙ sym (without-keeps (suc p + j) p (free_places (suc p) xs) (omega arith)))
+    (ap (λ z. p ∷ z) (free-filled (suc p) j xs n (omega arith) h) ∙ sym (without-keeps (suc p + j) p (free_places (suc p) xs) (omega arith)))
 free-filled p (suc j) (Some m ∷ xs) n l h =
     let e : p + suc j ≡ suc p + j = omega arith in
     subst (λ z. free_places (suc p) (slice_set xs j (Some n)) ≡ without z (z + 1) (free_places (suc p) xs)) (sym e) (free-filled (suc p) j xs n (omega arith) h)
@@ -274,12 +274,12 @@ open-ended i zero (before ∷ rows) words l h =
     let h' : is_ended_row (row_of i words) ≡ true = subst (λ z. is_ended_row (row_of z words) ≡ true) e h in
     let k : open_names i (words ∷ rows) ≡ open_names (suc i) rows = ap (λ b. cond b (open_names (suc i) rows) (i ∷ open_names (suc i) rows)) h' in
     subst (λ z. open_names i (words ∷ rows) ≡ without z (z + 1) (open_names i (before ∷ rows))) (sym e)
-      (k ∙ drop-first (is_ended_row (row_of i before)) i (open_names (suc i) rows) (open-low (suc i) i rows (omega arith)))
+    (k ∙ drop-first (is_ended_row (row_of i before)) i (open_names (suc i) rows) (open-low (suc i) i rows (omega arith)))
 open-ended i (suc j) (before ∷ rows) words l h =
     let e : i + suc j ≡ suc i + j = omega arith in
     let h' = subst (λ z. is_ended_row (row_of z words) ≡ true) e h in
     subst (λ z. open_names i (before ∷ slice_set rows j words) ≡ without z (z + 1) (open_names i (before ∷ rows))) (sym e)
-      (cond-without (is_ended_row (row_of i before)) (suc i + j) i (open_names (suc i) rows) (open_names (suc i) (slice_set rows j words)) (omega arith) (open-ended (suc i) j rows words (omega arith) h'))
+    (cond-without (is_ended_row (row_of i before)) (suc i + j) i (open_names (suc i) rows) (open_names (suc i) (slice_set rows j words)) (omega arith) (open-ended (suc i) j rows words (omega arith) h'))
 
 -- ---- the claims from the newest on
 

@@ -1,6 +1,6 @@
 -- A store in which nothing is drawn.
-use Rattle.std.proofs.Common.{◌≡◌, ℕ, zero, suc, ◌+◌, ◌-◌, ◌<◌, ◌≤◌, Bool, true, false, List, [], ◌∷◌, ◌++◌, length, replicate, Option, Some, None, refl, sym, ap, ◌∙◌, arith, subst, ◌⊎◌, inl, inr, ⊎_elim, not, ◌&&◌, ◌||◌}
-use Rattle.std.specs.Prelude.{slice_index_or, option_map, option_and_then, is_some}
+use Rattle.std.proofs.Common.{◌≡◌, ℕ, zero, suc, ◌+◌, ◌-◌, ◌<◌, ◌≤◌, true, false, [], ◌∷◌, length, Some, None, refl, sym, ap, ◌∙◌, arith, subst, ◌⊎◌, inl, inr, ⊎_elim}
+use Rattle.std.specs.Prelude.{option_map, option_and_then, is_some}
 use Rattle.std.proofs.lemmas.Bool.{true≢false}
 use Rattle.std.proofs.lemmas.List.{get_or_default}
 use Rattle.lazy_rec.specs.declared.records.Rec.{Rec}
@@ -11,11 +11,10 @@ use Rattle.lazy_rec.specs.Named.{is_pending}
 use Rattle.lazy_rec.specs.States.{kept}
 use Rattle.heap_store.specs.declared.nodes.Node.{Node}
 use Rattle.heap_store.specs.World.{World, recs, node_at, state_at, done_at, is_claimed_at, fixed_places}
-use Rattle.heap_store.specs.Rows.{Row, row_of, row_at, words_at, word_at, word, version_of_word}
+use Rattle.heap_store.specs.Rows.{Row, row_of, row_at, word_at, word, version_of_word}
 use Rattle.heap_store.specs.Legal.{IsLegal}
-use Rattle.heap_store.specs.Lawful.{HasLaws, IsLawful, IsDoneWell, has_origin, has_maker}
-use Rattle.heap_store.specs.LookedAt.{HasRoots}
-use Rattle.heap_store.specs.Plain.{IsPlain, IsSeenWell, plain_world, filled_up, fresh_node, five_records, is_claimed_node}
+use Rattle.heap_store.specs.Lawful.{HasLaws, IsLawful, has_origin, has_maker}
+use Rattle.heap_store.specs.Plain.{IsPlain, plain_world, fresh_node, five_records, is_claimed_node}
 use Rattle.heap_store.proofs.ShowLaws.{one_value}
 use Rattle.heap_store.proofs.PlainLists.{filled-beyond, get_or-replicate_cases}
 use Rattle.heap_store.proofs.PlainWorlds.{rows_undrawn}

@@ -1,12 +1,12 @@
 -- What an index of a plain heap's places reads.
-use Rattle.std.proofs.Common.{◌≡◌, ℕ, ◌<◌, true, false, List, [], ◌∷◌, Option, Some, None, refl, sym, ap, ◌∙◌, length, Bool, not, ◌&&◌, ◌||◌, eqb, ⊎_elim}
+use Rattle.std.proofs.Common.{◌≡◌, ℕ, ◌<◌, true, List, [], ◌∷◌, Option, Some, None, refl, sym, ap, ◌∙◌, length, Bool, not, ◌&&◌, eqb, ⊎_elim}
 use Rattle.std.specs.List.{list_any}
 use Rattle.std.proofs.lemmas.Bool.{true≢false, and_parts, or_cases, or_left, or_right}
 use Rattle.std.specs.Prelude.{slice_index_or, option_map}
 use Rattle.lazy_rec.specs.declared.records.Rec.{Rec}
 use Rattle.lazy_rec.specs.declared.states.SuspState.{SuspState}
 use Rattle.heap_store.specs.declared.nodes.Node.{Node}
-use Rattle.heap_store.specs.World.{World, recs, node_at, state_at, holds}
+use Rattle.heap_store.specs.World.{recs, node_at, state_at, holds}
 use Rattle.lazy_rec.specs.declared.states.SuspState.TheVariants.{Unforced, Claimed, Done}
 use Rattle.lazy_rec.specs.States.{is_claimed}
 use Rattle.heap_store.specs.declared.claims.HeldClaim.{HeldClaim}

@@ -1,8 +1,8 @@
 -- What the calls on names and rows do.
-use Rattle.std.proofs.Common.{◌≡◌, ◌≢◌, ℕ, zero, suc, ◌+◌, ◌-◌, ◌*◌, ◌/◌, ◌%◌, ◌^◌, ◌<◌, ◌≤◌, Bool, true, false, List, [], ◌∷◌, ◌++◌, length, replicate, Option, Some, None, refl, sym, ap, ◌∙◌, arith, subst, inl, inr, ⊎_elim, cond, not, ◌&&◌, ◌||◌, eqb, leb, ltb}
+use Rattle.std.proofs.Common.{◌≡◌, ℕ, zero, suc, ◌+◌, ◌-◌, ◌/◌, ◌%◌, ◌^◌, ◌<◌, ◌≤◌, Bool, true, false, List, [], ◌∷◌, ◌++◌, length, Option, Some, None, refl, sym, ap, ◌∙◌, arith, subst, ⊎_elim, cond, ◌||◌, eqb, leb}
 use Rattle.std.specs.Prelude.{slice_set, slice_index_or, slice_get, option_map, option_and_then, is_some}
 use Rattle.std.specs.List.{list_any}
-use Rattle.std.proofs.lemmas.Bool.{cases_eq, cases_lt, true≢false, and_parts, and_from, eqb-true, eq-eqb, leb-true}
+use Rattle.std.proofs.lemmas.Bool.{cases_eq, cases_lt, true≢false, and_parts, eqb-true, eq-eqb, leb-true}
 use Rattle.std.proofs.lemmas.List.{length-set, length-append, get_or-set_same, get_or-set_other, get_or_default}
 use Rattle.lazy_rec.specs.declared.events.Op.{Op}
 use Rattle.lazy_rec.specs.declared.events.Kind.{Kind}
@@ -11,21 +11,19 @@ use Rattle.lazy_rec.specs.declared.events.Reply.{Reply}
 use Rattle.heap_store.specs.declared.nodes.Node.{Node}
 use Rattle.heap_store.specs.declared.claims.HeldClaim.{HeldClaim}
 use Rattle.heap_store.specs.declared.claims.OpenRow.{OpenRow}
-use Rattle.heap_store.specs.declared.claims.NamesFull.{NamesFull}
 use Rattle.heap_store.specs.declared.claims.Full.{Full}
 use Rattle.heap_store.specs.World.{World}
-use Rattle.heap_store.specs.Rows.{Row, Ending, not_ended, full, memory, no_base, is_ended, answered_if, ending_of, row_with, row_of, row_at, words_at, word_at, word, store_word, is_ended_at, op_of_number, version_of_word, version_with, reply_of_word, is_begun_word, caller_of_word, all_kinds}
+use Rattle.heap_store.specs.Rows.{Row, Ending, not_ended, full, memory, no_base, is_ended, answered_if, row_with, row_of, row_at, words_at, word_at, word, store_word, is_ended_at, op_of_number, version_of_word, version_with, reply_of_word, is_begun_word, caller_of_word, all_kinds}
 use Rattle.heap_store.specs.Legal.{IsLegal}
 use Rattle.heap_store.specs.LookedAt.{HasRoots}
 use Rattle.heap_store.specs.Growth.{Grows, begun_of}
-use Rattle.heap_store.specs.Lawful.{HasLaws, IsLawful, IsDoneWell}
-use Rattle.heap_store.specs.Hand.{Hand, contains, without, is_open, hand_begun, hand_ended, hand_named}
-use Rattle.heap_store.specs.View.{View}
-use Rattle.heap_store.specs.RowCalls.{Named, NoName, MayStore, Stored, is_word_value, is_version_word, begins, ends, hand_stored}
+use Rattle.heap_store.specs.Lawful.{IsLawful}
+use Rattle.heap_store.specs.Hand.{Hand, without, is_open, hand_begun, hand_ended, hand_named}
+use Rattle.heap_store.specs.RowCalls.{Named, MayStore, Stored, is_word_value, begins, ends, hand_stored}
 use Rattle.heap_store.specs.Plain.{IsPlain, IsSeenWell, plain_world, plain_hand, plain_view, filled_up, no_words, free_places, open_names, is_ended_row, row_after_end, row_after_word}
 use Rattle.heap_store.proofs.GrowthLaws.{grows_refl}
 use Rattle.heap_store.proofs.PlainLists.{filled-within, filled-set, filled-more, length-filled, open-append, open-same, open-ended}
-use Rattle.heap_store.proofs.PlainWorlds.{rows_undrawn, undrawn_row, words-drawn, name_to, plain_lawful}
+use Rattle.heap_store.proofs.PlainWorlds.{rows_undrawn, undrawn_row, words-drawn, name_to}
 use Rattle.heap_store.proofs.PlainSteps.{view-same}
 
 -- ---- words
@@ -138,8 +136,8 @@ module _ (w : World) (k i v : ℕ) (there : k < length w.rows) where
         here : is_some (version_of_word 0 (word_at (store_word w (suc k) i v) (suc k) 3)) ≡ true
         here = ⊎_elim
             (λ e. (let value : is_word_value 3 v ≡ true = subst (λ z. is_word_value z v ≡ true) (sym e) fits in
-                let own : word_at (store_word w (suc k) i v) (suc k) 3 ≡ v = subst (λ z. word_at (store_word w (suc k) i v) (suc k) z ≡ v) (sym e) own_word in
-                ap (λ z. is_some (version_of_word 0 z)) own ∙ (and_parts (is_some (version_of_word 0 v)) _ value).0))
+            let own : word_at (store_word w (suc k) i v) (suc k) 3 ≡ v = subst (λ z. word_at (store_word w (suc k) i v) (suc k) z ≡ v) (sym e) own_word in
+            ap (λ z. is_some (version_of_word 0 z)) own ∙ (and_parts (is_some (version_of_word 0 v)) _ value).0))
             (λ ne. ap (λ z. is_some (version_of_word 0 z)) (same_word 3 ne) ∙ seen.versions (suc k)) (cases_eq 3 i)
 
     pub ended_after : i ≡ 5 → is_ended_at (row_at (store_word w (suc k) i v)) (suc k) ≡ true
@@ -168,8 +166,8 @@ module _ (w : World) (k i v : ℕ) (there : k < length w.rows) where
     wide_after m l =
         let l' : m < length w.rows = rw length-set at l in
         ⊎_elim
-          (λ e. subst (λ z. length (words_at (store_word w (suc k) i v) (suc z)) ≡ 6) (sym e) (ap length words-same ∙ (length-set (words_at w (suc k)) i v ∙ seen.wide k there)))
-          (λ ne. ap length (words-other m ne) ∙ seen.wide m l') (cases_eq m k)
+        (λ e. subst (λ z. length (words_at (store_word w (suc k) i v) (suc z)) ≡ 6) (sym e) (ap length words-same ∙ (length-set (words_at w (suc k)) i v ∙ seen.wide k there)))
+        (λ ne. ap length (words-other m ne) ∙ seen.wide m l') (cases_eq m k)
 
     pub stored_seen : IsLegal (store_word w (suc k) i v) → HasRoots (store_word w (suc k) i v) → IsSeenWell (store_word w (suc k) i v) claims
     stored_seen legal roots = record {
@@ -186,11 +184,11 @@ module _ (w : World) (k i v : ℕ) (there : k < length w.rows) where
     begun_after : (e : ℕ × Event) → option_and_then begun_of (row_at w (suc k)) ≡ Some e → option_and_then begun_of (row_at (store_word w (suc k) i v) (suc k)) ≡ Some e
     begun_after e h = ⊎_elim
         (λ l. (let z = once l in
-            let none : option_and_then begun_of (row_at w (suc k)) ≡ None = begun-words (suc k) (words_at w (suc k)) ∙ (begun-same _ _ _ _ _ _ z refl refl ∙ begun_none (word_at w (suc k) 1) (word_at w (suc k) 2)) in
-            let bad : None ≡ Some e = sym none ∙ h in cc))
+        let none : option_and_then begun_of (row_at w (suc k)) ≡ None = begun-words (suc k) (words_at w (suc k)) ∙ (begun-same _ _ _ _ _ _ z refl refl ∙ begun_none (word_at w (suc k) 1) (word_at w (suc k) 2)) in
+        let bad : None ≡ Some e = sym none ∙ h in cc))
         (λ high. begun-words (suc k) (words_at (store_word w (suc k) i v) (suc k)) ∙
-            (begun-same _ _ _ _ _ _ (same_word 0 (λ x. absurd (omega (arith, x)))) (same_word 1 (λ x. absurd (omega (arith, x)))) (same_word 2 (λ x. absurd (omega (arith, x)))) ∙
-            (sym (begun-words (suc k) (words_at w (suc k))) ∙ h)))
+        (begun-same _ _ _ _ _ _ (same_word 0 (λ x. absurd (omega (arith, x)))) (same_word 1 (λ x. absurd (omega (arith, x)))) (same_word 2 (λ x. absurd (omega (arith, x)))) ∙
+        (sym (begun-words (suc k) (words_at w (suc k))) ∙ h)))
         (cases_lt i 3)
 
     pub stored_grows : Grows w (store_word w (suc k) i v)
@@ -276,7 +274,7 @@ module _ (capacity row_capacity : ℕ) (nodes : List (Option Node)) (claims : Li
         let w = plain_world capacity row_capacity nodes rows in
         let e : slice_index_or w.rows k [] ≡ slice_index_or rows k [] = filled-within no_words [] row_capacity rows k drawn in
         let f : filled_up no_words row_capacity (slice_set rows k (slice_set (slice_index_or rows k []) i v)) ≡ slice_set w.rows k (slice_set (slice_index_or w.rows k []) i v) =
-          sym (filled-set no_words row_capacity rows k (slice_set (slice_index_or rows k []) i v) drawn) ∙ ap (λ ws. slice_set w.rows k (slice_set ws i v)) (sym e) in
+        sym (filled-set no_words row_capacity rows k (slice_set (slice_index_or rows k []) i v) drawn) ∙ ap (λ ws. slice_set w.rows k (slice_set ws i v)) (sym e) in
         ap (λ (rs : List (List ℕ)). record { nodes = w.nodes; rows = rs }) f
 
     pub stored_plain : IsPlain capacity row_capacity nodes claims (slice_set rows k (slice_set (slice_index_or rows k []) i v))
@@ -294,14 +292,14 @@ module _ (capacity row_capacity : ℕ) (nodes : List (Option Node)) (claims : Li
         }
 
     stored_view : (names : List ℕ) (open_row' : Option OpenRow) → open_names 1 (slice_set rows k (slice_set (slice_index_or rows k []) i v)) ≡ names → hand_with (plain_hand nodes claims rows open_row) names open_row' ≡ hand_stored (plain_hand nodes claims rows open_row) (suc k) i v
-      → Stored (plain_view nodes claims rows open_row capacity row_capacity refused last) (plain_view nodes claims (slice_set rows k (slice_set (slice_index_or rows k []) i v)) open_row' capacity row_capacity refused last) (suc k) i v
+        → Stored (plain_view nodes claims rows open_row capacity row_capacity refused last) (plain_view nodes claims (slice_set rows k (slice_set (slice_index_or rows k []) i v)) open_row' capacity row_capacity refused last) (suc k) i v
     unfolding hand_with
     stored_view names open_row' names_are hand_is =
         let v0 = plain_view nodes claims rows open_row capacity row_capacity refused last in
         let w = plain_world capacity row_capacity nodes rows in
         let same : plain_view nodes claims (slice_set rows k (slice_set (slice_index_or rows k []) i v)) open_row' capacity row_capacity refused last ≡ record v0 { seen = store_word w (suc k) i v; hand = record v0.hand { names = names; open_row = open_row' } } =
-          view-same capacity row_capacity refused last claims open_row' _ (store_word w (suc k) i v) _ (free_places 0 nodes) _ names _ v0.drawn _ v0.named
-            world-stored refl names_are refl (length-set rows k (slice_set (slice_index_or rows k []) i v)) in
+        view-same capacity row_capacity refused last claims open_row' _ (store_word w (suc k) i v) _ (free_places 0 nodes) _ names _ v0.drawn _ v0.named
+        world-stored refl names_are refl (length-set rows k (slice_set (slice_index_or rows k []) i v)) in
         subst (λ t. Stored v0 t (suc k) i v) (sym same) (record {
           grows = stored_grows w k i v in_world claims h.seen may.word may.fits open_yet may.once end_row;
           word = own_word w k i v in_world claims h.seen may.word may.fits open_yet may.once end_row;
@@ -392,7 +390,7 @@ module _ (capacity row_capacity : ℕ) (nodes : List (Option Node)) (claims : Li
       pub stored_view_at : Stored (plain_view nodes claims rows open_row capacity row_capacity refused last) (plain_view nodes claims (slice_set rows (name - 1) (slice_set ws i v)) (row_after_word name i v open_row) capacity row_capacity refused last) name i v
       stored_view_at =
           let s : Stored (plain_view nodes claims rows open_row capacity row_capacity refused last) (plain_view nodes claims (slice_set rows (name - 1) (slice_set (slice_index_or rows (name - 1) []) i v)) (row_after_word name i v open_row) capacity row_capacity refused last) name i v =
-            subst (λ z. Stored (plain_view nodes claims rows open_row capacity row_capacity refused last) (plain_view nodes claims (slice_set rows (name - 1) (slice_set (slice_index_or rows (name - 1) []) i v)) (row_after_word z i v open_row) capacity row_capacity refused last) z i v) next_is (stored (name - 1) i v may_store) in
+          subst (λ z. Stored (plain_view nodes claims rows open_row capacity row_capacity refused last) (plain_view nodes claims (slice_set rows (name - 1) (slice_set (slice_index_or rows (name - 1) []) i v)) (row_after_word z i v open_row) capacity row_capacity refused last) z i v) next_is (stored (name - 1) i v may_store) in
           subst (λ z. Stored (plain_view nodes claims rows open_row capacity row_capacity refused last) (plain_view nodes claims (slice_set rows (name - 1) (slice_set z i v)) (row_after_word name i v open_row) capacity row_capacity refused last) name i v) (sym words_are) s
 
   -- a word is loaded
@@ -406,8 +404,8 @@ module _ (capacity row_capacity : ℕ) (nodes : List (Option Node)) (claims : Li
   loaded_zero name i low l =
       let next : suc (name - 1) ≡ name = omega arith in
       let e : 0 ≡ word_at (plain_world capacity row_capacity nodes rows) (suc (name - 1)) i = ⊎_elim
-            (λ f. sym (ap (λ z. word z i) f ∙ zero_word i))
-            (λ f. sym (ap (λ z. word z i) f ∙ no_word i)) (rows_undrawn row_capacity (name - 1) rows l) in
+      (λ f. sym (ap (λ z. word z i) f ∙ zero_word i))
+      (λ f. sym (ap (λ z. word z i) f ∙ no_word i)) (rows_undrawn row_capacity (name - 1) rows l) in
       subst (λ z. 0 ≡ word_at (plain_world capacity row_capacity nodes rows) z i) next e
 
   -- a name is drawn
@@ -436,7 +434,7 @@ module _ (capacity row_capacity : ℕ) (nodes : List (Option Node)) (claims : Li
         let f : 1 + length rows ≡ name = omega (arith, e) in
         let names : open_names 1 (rows ++ no_words ∷ []) ≡ open_names 1 rows ++ name ∷ [] = open-append 1 rows ∙ ap (λ z. open_names 1 rows ++ z ∷ []) f in
         let same : plain_view nodes claims (rows ++ no_words ∷ []) open_row capacity row_capacity refused last ≡ record v0 { hand = hand_named v0.hand name; named = name } =
-          view-same capacity row_capacity refused last claims open_row _ v0.seen _ (free_places 0 nodes) _ (open_names 1 rows ++ name ∷ []) _ v0.drawn _ name world-named refl names refl (length-named ∙ sym e) in
+        view-same capacity row_capacity refused last claims open_row _ v0.seen _ (free_places 0 nodes) _ (open_names 1 rows ++ name ∷ []) _ v0.drawn _ name world-named refl names refl (length-named ∙ sym e) in
         subst (λ t. Named v0 t name) (sym same) (record {
           grows = grows_refl v0.seen;
           low = omega (arith, e);

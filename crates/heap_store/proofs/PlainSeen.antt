@@ -1,30 +1,28 @@
 -- What each call keeps of a world of one thread and the claims on it.
-use Rattle.std.proofs.Common.{◌≡◌, ◌≢◌, ℕ, zero, suc, ◌+◌, ◌-◌, ◌<◌, ◌≤◌, Bool, true, false, List, [], ◌∷◌, ◌++◌, length, Option, Some, None, refl, sym, ap, ◌∙◌, arith, subst, ◌⊎◌, inl, inr, ⊎_elim, cond, not, ◌&&◌, ◌||◌, eqb, ltb}
-use Rattle.std.specs.Prelude.{count_by, slice_set, slice_index_or, option_map, option_and_then}
+use Rattle.std.proofs.Common.{◌≡◌, ◌≢◌, ℕ, zero, suc, ◌<◌, Bool, true, false, List, [], ◌∷◌, length, Option, Some, None, refl, sym, ap, ◌∙◌, arith, subst, ◌⊎◌, inl, inr, ⊎_elim, cond, not, ◌&&◌, ◌||◌, eqb, ltb}
+use Rattle.std.specs.Prelude.{option_map, option_and_then}
 use Rattle.std.specs.List.{list_all, list_any}
 use Rattle.std.proofs.lemmas.Grind.{common_steps}
-use Rattle.std.proofs.lemmas.Bool.{cases_eq, cases_lt, true≢false, and_parts, and_from, or_cases, or_left, or_right, eqb-true, eq-eqb}
+use Rattle.std.proofs.lemmas.Bool.{cases_eq, true≢false, and_parts, and_from, or_cases, or_left, or_right, eqb-true, eq-eqb}
 use Rattle.std.proofs.lemmas.List.{length-set}
 use Rattle.lazy_rec.specs.declared.records.Rec.{Rec}
 use Rattle.lazy_rec.specs.declared.places.Ref.{Ref}
 use Rattle.lazy_rec.specs.declared.states.SuspState.{SuspState}
 use Rattle.lazy_rec.specs.declared.states.SuspState.TheVariants.{Unforced, Claimed, Done}
-use Rattle.lazy_rec.specs.Named.{Records, at_record, is_pending}
-use Rattle.lazy_rec.specs.States.{kept, given_up, is_claimed, state_in_range}
+use Rattle.lazy_rec.specs.Named.{Records, is_pending}
+use Rattle.lazy_rec.specs.States.{kept, is_claimed}
 use Rattle.lazy_rec.specs.Tests.{is_some_and, implies}
 use Rattle.lazy_rec.specs.Units.{family_of}
 use Rattle.heap_store.specs.declared.nodes.Node.{Node}
 use Rattle.heap_store.specs.declared.claims.HeldClaim.{HeldClaim}
-use Rattle.heap_store.specs.World.{World, recs, node_at, state_at, done_at, show, holds, some_record, some_below, is_claimed_at, is_taken}
+use Rattle.heap_store.specs.World.{World, recs, node_at, state_at, show, holds, some_record, some_below, is_claimed_at, is_taken}
 use Rattle.heap_store.specs.Growth.{Grows}
-use Rattle.heap_store.specs.Completion.{is_next}
-use Rattle.heap_store.specs.Lawful.{IsLawful, HasLaws, IsDoneWell, has_origin, has_maker, has_maker_at, is_maker, is_still}
+use Rattle.heap_store.specs.Lawful.{IsLawful, HasLaws, has_origin, has_maker_at, is_maker, is_still}
 use Rattle.heap_store.specs.Hand.{Hand, IsLawfulHand, contains, all_distinct, claim_places, fresh_claim, mark_newest, is_later, without_claim, newest_makes, is_at_offset, has_no_next, is_claim_well}
-use Rattle.heap_store.specs.View.{View, Fits}
 use Rattle.heap_store.specs.Plain.{IsSeenWell, is_marked_well}
-use Rattle.heap_store.proofs.GrowthLaws.{at_true, state_there}
-use Rattle.heap_store.proofs.ShowLaws.{one_value, node-same, node-other, show_adds, put_grows, recs-show, recs-show-all, state_grows, state-same, state-other}
-use Rattle.heap_store.proofs.LawfulLaws.{some_to, some_from, within, lawful_names, lawful_put, lawful_state}
+use Rattle.heap_store.proofs.GrowthLaws.{at_true}
+use Rattle.heap_store.proofs.ShowLaws.{one_value, node-same, node-other, show_adds, put_grows, recs-show, recs-show-all}
+use Rattle.heap_store.proofs.LawfulLaws.{some_to, some_from, within, lawful_names, lawful_put}
 use Rattle.heap_store.proofs.RowLaws.{legal_kept, roots_kept}
 use Rattle.heap_store.proofs.Steps.{places-mark}
 use Rattle.heap_store.proofs.PlainLists.{without_claim-absent, contains-without_other, contains-without_same}
@@ -105,9 +103,9 @@ module _ (w : World) (p : ℕ) (r : Rec) (inside : p < length w.nodes) (none : n
           let b = show w p r (Unforced 0) in
           let x = some_to (length b.nodes) (recs b) (is_at_offset (family_of s t).0 (suc (family_of s t).1)) k in
           ⊎_elim
-            (λ here. apart (offset_to (family_of s t).0 (suc (family_of s t).1) p r (subst (λ z. is_at_offset (family_of s t).0 (suc (family_of s t).1) p z ≡ true) here.1 (subst (λ z. is_at_offset (family_of s t).0 (suc (family_of s t).1) z x.1 ≡ true) here.0 x.3))))
-            (λ was. (let y = some_from (length w.nodes) (recs w) (is_at_offset (family_of s t).0 (suc (family_of s t).1)) x.0 x.1 (within w x.0 x.1 was) was x.3 in let z : false ≡ true = sym (ap not y) ∙ h in true≢false (sym z)))
-            (which x.0 x.1 x.2)
+          (λ here. apart (offset_to (family_of s t).0 (suc (family_of s t).1) p r (subst (λ z. is_at_offset (family_of s t).0 (suc (family_of s t).1) p z ≡ true) here.1 (subst (λ z. is_at_offset (family_of s t).0 (suc (family_of s t).1) z x.1 ≡ true) here.0 x.3))))
+          (λ was. (let y = some_from (length w.nodes) (recs w) (is_at_offset (family_of s t).0 (suc (family_of s t).1)) x.0 x.1 (within w x.0 x.1 was) was x.3 in let z : false ≡ true = sym (ap not y) ∙ h in true≢false (sym z)))
+          (which x.0 x.1 x.2)
 
   -- a claim stays well, where the record isn't what it makes next
   claim-put : (c : HeldClaim) → is_claim_well w c ≡ true → (c.passed ≡ false → (t : Rec) → recs w c.place.0 ≡ Some t → HasOffset (family_of c.place.0 t).0 (suc (family_of c.place.0 t).1) p r → ⊥) → is_claim_well (show w p r (Unforced 0)) c ≡ true
@@ -180,8 +178,8 @@ module _ (w : World) (p : ℕ) (r : Rec) (inside : p < length w.nodes) (none : n
       let alone = newest_alone w c cs (family_of p r).0 (suc i) r (makes i e) in
       let later : is_later p r ≡ true = ap (ltb 0) e ∙ later_suc i in
       and_from _ _
-        (marked-put w p r inside none law (is_later p r) c l.0 (λ no. absurd (true≢false (sym later ∙ no))))
-        (claims-put w p r inside none law cs l.1 (λ x m no t f cl has. distinct_head c.place.0 (claim_places cs) x.place.0 d m (other_apart w p r inside none law c i alone e x t f cl has)))
+      (marked-put w p r inside none law (is_later p r) c l.0 (λ no. absurd (true≢false (sym later ∙ no))))
+      (claims-put w p r inside none law cs l.1 (λ x m no t f cl has. distinct_head c.place.0 (claim_places cs) x.place.0 d m (other_apart w p r inside none law c i alone e x t f cl has)))
 
   -- a world with one more record
   pub put_seen : (h : Hand) → IsLawfulHand w h → IsSeenWell w h.claims → HasLaws (show w p r (Unforced 0)) p r → has_origin p r ≡ true → ((i : ℕ) → (family_of p r).1 ≡ suc i → newest_makes w h.claims (family_of p r).0 (suc i) r ≡ true) → IsSeenWell (show w p r (Unforced 0)) (mark_newest (is_later p r) h.claims)
@@ -283,6 +281,21 @@ module _ (w : World) (p : ℕ) (r : Rec) (old s : SuspState) (inside : p < lengt
 taken_of_unforced : (w : World) (s : ℕ) (r : Rec) (g : ℕ) → node_at w s ≡ Some (record { rec = r; state = Unforced g }) → is_taken w s ≡ true → ⊥
 taken_of_unforced w s r g e h = true≢false (sym h ∙ ap (λ o. is_some_and (λ d. true) (option_and_then (λ (n : Node). kept n.state) o) || is_some_and (λ (n : Node). is_claimed n.state) o) e)
 
+-- what a maker is, as facts
+pub record IsMaker (w : World) (origin off : ℕ) (q : ℕ) (t : Rec) : Type 0 where
+  pub pending : is_pending t ≡ true
+  pub origin_is : (family_of q t).0 ≡ origin
+  pub off_is : (family_of q t).1 ≡ off
+  pub taken : is_taken w q ≡ true
+
+maker_to : (w : World) (origin off : ℕ) (r : Rec) (q : ℕ) (t : Rec) → is_maker w origin off r q t ≡ true → IsMaker w origin off q t
+maker_to w origin off r q t h =
+    let p1 = and_parts _ _ h in
+    let p2 = and_parts _ _ p1.0 in
+    let p3 = and_parts _ _ p2.0 in
+    let p4 = and_parts (is_pending t) _ p3.0 in
+    record { pending = p4.0; origin_is = eqb-true _ _ p4.1; off_is = eqb-true _ _ p3.1; taken = p1.1 }
+
 -- an unforced suspension has made no next one
 pub unforced_no_next : (w : World) → IsLawful w → (s : ℕ) (r : Rec) (g : ℕ) → node_at w s ≡ Some (record { rec = r; state = Unforced g }) → is_pending r ≡ true → has_no_next w s r ≡ true
 unforced_no_next w law s r g e pending = ap not (not_true (some_record w (is_at_offset (family_of s r).0 (suc (family_of s r).1))) found)
@@ -297,12 +310,9 @@ unforced_no_next w law s r g e pending = ap not (not_true (some_record w (is_at_
         let both : family_of x.0 x.1 ≡ ((family_of s r).0, suc (family_of s r).1) = same_family (family_of x.0 x.1) ((family_of s r).0, suc (family_of s r).1) f.origin_is f.off_is in
         let m : has_maker_at w x.1 (family_of s r).0 (suc (family_of s r).1) ≡ true = subst (λ (z : ℕ × ℕ). has_maker_at w x.1 z.0 z.1 ≡ true) both (law.makers x.0 x.1 x.2) in
         let y = some_to (length w.nodes) (recs w) (is_maker w (family_of s r).0 (family_of s r).1 x.1) m in
-        let p1 = and_parts _ _ y.3 in
-        let p2 = and_parts _ _ p1.0 in
-        let p3 = and_parts _ _ p2.0 in
-        let p4 = and_parts (is_pending y.1) _ p3.0 in
-        let same = law.one y.0 y.1 y.2 p4.0 s r own pending (same_family (family_of y.0 y.1) (family_of s r) (eqb-true _ _ p4.1) (eqb-true _ _ p3.1)) in
-        taken_of_unforced w s r g e (subst (λ z. is_taken w z ≡ true) same p1.1)
+        let maker = maker_to w (family_of s r).0 (family_of s r).1 x.1 y.0 y.1 y.3 in
+        let same = law.one y.0 y.1 y.2 maker.pending s r own pending (same_family (family_of y.0 y.1) (family_of s r) maker.origin_is maker.off_is) in
+        taken_of_unforced w s r g e (subst (λ z. is_taken w z ≡ true) same maker.taken)
 
 -- a claim whose attempt has published nothing
 pub unbuilt_no_next : (w : World) (cs : List HeldClaim) (s : ℕ) (r : Rec) → list_all (is_claim_well w) cs ≡ true → list_all is_marked_well cs ≡ true → list_any (λ (c : HeldClaim). eqb c.place.0 s && not c.built) cs ≡ true → recs w s ≡ Some r → has_no_next w s r ≡ true
@@ -311,9 +321,9 @@ unbuilt_no_next w (c ∷ cs) s r well marked h e =
     let k = and_parts (is_claim_well w c) _ well in
     let m = and_parts (is_marked_well c) _ marked in
     ⊎_elim
-      (λ here. (let t = and_parts (eqb c.place.0 s) _ here in let same = eqb-true c.place.0 s t.0 in by c.passed c.built same m.0 t.1 (and_parts (is_claimed_at w c.place.0) _ k.0).1))
-      (λ there. unbuilt_no_next w cs s r k.1 m.1 there e)
-      (or_cases (eqb c.place.0 s && not c.built) _ h)
+    (λ here. (let t = and_parts (eqb c.place.0 s) _ here in let same = eqb-true c.place.0 s t.0 in by c.passed c.built same m.0 t.1 (and_parts (is_claimed_at w c.place.0) _ k.0).1))
+    (λ there. unbuilt_no_next w cs s r k.1 m.1 there e)
+    (or_cases (eqb c.place.0 s && not c.built) _ h)
   where
     by : (passed built : Bool) → c.place.0 ≡ s → implies passed built ≡ true → not built ≡ true → (passed || holds (recs w) c.place.0 (λ t. has_no_next w c.place.0 t)) ≡ true → has_no_next w s r ≡ true
     by true true same i n o = absurd (true≢false (sym n))

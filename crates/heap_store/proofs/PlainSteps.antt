@@ -1,9 +1,8 @@
 -- What the calls on places and claims do to the fields of a plain heap and to its view.
-use Rattle.std.proofs.Common.{◌≡◌, ◌≢◌, ℕ, zero, suc, ◌+◌, ◌-◌, ◌<◌, ◌≤◌, Bool, true, false, List, [], ◌∷◌, ◌++◌, length, replicate, Option, Some, None, refl, sym, ap, ◌∙◌, arith, subst, inl, inr, ⊎_elim, cond, not, ◌&&◌, ◌||◌, eqb, ltb, min}
+use Rattle.std.proofs.Common.{◌≡◌, ℕ, ◌+◌, ◌-◌, ◌<◌, ◌≤◌, Bool, true, false, List, [], ◌∷◌, ◌++◌, length, replicate, Option, Some, None, refl, sym, ap, ◌∙◌, arith, subst, inl, inr, cond, not, ◌&&◌, ◌||◌, ltb, min}
 use Rattle.std.specs.Prelude.{count_by, slice_set, slice_index_or, option_map}
-use Rattle.std.specs.List.{list_all, list_any, sum_by}
-use Rattle.std.proofs.lemmas.Grind.{common_steps}
-use Rattle.std.proofs.lemmas.Bool.{cases_eq, cases_lt, true≢false, and_parts, and_from, lt-ltb, ltb-true}
+use Rattle.std.specs.List.{list_all}
+use Rattle.std.proofs.lemmas.Bool.{and_parts, and_from, lt-ltb, ltb-true}
 use Rattle.std.proofs.lemmas.List.{length-set, length-append, length-replicate}
 use Rattle.std.proofs.lemmas.List.Sums.{sum_by-set, count_by-le-length}
 use Rattle.lazy_rec.specs.declared.records.Rec.{Rec}
@@ -12,27 +11,26 @@ use Rattle.lazy_rec.specs.declared.places.Ref.{Ref}
 use Rattle.lazy_rec.specs.declared.states.SuspState.{SuspState}
 use Rattle.lazy_rec.specs.declared.states.SuspState.TheVariants.{Unforced, Claimed, Done}
 use Rattle.lazy_rec.specs.Named.{is_pending}
-use Rattle.lazy_rec.specs.States.{kept, given_up, is_claimed, is_unforced, state_in_range}
-use Rattle.lazy_rec.specs.Tests.{is_some_and, implies}
-use Rattle.lazy_rec.specs.Units.{family_of}
+use Rattle.lazy_rec.specs.States.{given_up, is_claimed, is_unforced, state_in_range}
+use Rattle.lazy_rec.specs.Tests.{implies}
 use Rattle.heap_store.specs.declared.nodes.Node.{Node}
 use Rattle.heap_store.specs.declared.claims.HeldClaim.{HeldClaim}
 use Rattle.heap_store.specs.declared.claims.OpenRow.{OpenRow}
 use Rattle.heap_store.specs.declared.claims.Full.{Full}
 use Rattle.heap_store.specs.Span.{Span}
-use Rattle.heap_store.specs.World.{World, recs, node_at, state_at, done_at, show, is_claimed_at, fixed_places}
+use Rattle.heap_store.specs.World.{World, recs, node_at, show, fixed_places}
 use Rattle.heap_store.specs.Growth.{Grows}
 use Rattle.heap_store.specs.Lawful.{IsLawful, IsDoneWell}
-use Rattle.heap_store.specs.Hand.{Hand, contains, all_distinct, claim_places, fresh_claim, mark_newest, is_later, without, without_claim, hand_reserved, hand_put, hand_won, hand_released, places_from}
-use Rattle.heap_store.specs.View.{View, IsLawfulView, Reserved, Fits, Put, IsWon, Completed, MayComplete, GivenUp, is_unbuilt, is_unforced_node, unforced, SameRows}
-use Rattle.heap_store.specs.Plain.{IsPlain, IsSeenWell, plain_world, plain_hand, plain_view, filled_up, fresh_node, free_places, open_names, is_claimed_node, is_marked_well}
+use Rattle.heap_store.specs.Hand.{contains, all_distinct, claim_places, fresh_claim, mark_newest, is_later, without, without_claim, hand_reserved, hand_put, hand_won, hand_released, places_from}
+use Rattle.heap_store.specs.View.{View, Reserved, Fits, Put, IsWon, Completed, MayComplete, GivenUp, is_unbuilt, is_unforced_node, unforced}
+use Rattle.heap_store.specs.Plain.{IsPlain, IsSeenWell, plain_world, plain_hand, plain_view, fresh_node, free_places, open_names, is_claimed_node, is_marked_well}
 use Rattle.heap_store.proofs.GrowthLaws.{grows_refl}
-use Rattle.heap_store.proofs.ShowLaws.{one_value, node-same, node-other, put_grows, show_adds, state_grows, state-same, done-same}
+use Rattle.heap_store.proofs.ShowLaws.{one_value, put_grows, show_adds, state_grows, state-same, done-same}
 use Rattle.heap_store.proofs.LawfulLaws.{lawful_state}
 use Rattle.heap_store.proofs.Steps.{places-mark}
-use Rattle.heap_store.proofs.PlainLists.{count-append, count-replicate, filled-more, free-append, free-replicate, free-filled, free-same, length-without_claim, distinct-without_claim, all-without_claim, without_claim-absent}
-use Rattle.heap_store.proofs.PlainWorlds.{node-drawn, drawn_there, show-drawn, inside_world, rec_node, published_rec, free_unpublished, fixed_drawn, lawful_hand, plain_lawful}
-use Rattle.heap_store.proofs.PlainSeen.{put_seen, won_seen, released_seen, unforced_no_next, unbuilt_no_next, claimed_pending, claimed-same}
+use Rattle.heap_store.proofs.PlainLists.{count-append, count-replicate, filled-more, free-append, free-replicate, free-filled, free-same, length-without_claim, distinct-without_claim, all-without_claim}
+use Rattle.heap_store.proofs.PlainWorlds.{node-drawn, drawn_there, show-drawn, inside_world, rec_node, published_rec, free_unpublished, fixed_drawn, lawful_hand}
+use Rattle.heap_store.proofs.PlainSeen.{put_seen, won_seen, released_seen, unforced_no_next, unbuilt_no_next, claimed_pending}
 
 -- ---- views
 
@@ -47,8 +45,8 @@ view_with capacity row_capacity refused last claims open_row seen reserved names
 }
 
 pub view-same : (capacity row_capacity refused : ℕ) (last : Full) (claims : List HeldClaim) (open_row : Option OpenRow) (w w' : World) (reserved reserved' names names' : List ℕ) (drawn drawn' named named' : ℕ)
-  → w ≡ w' → reserved ≡ reserved' → names ≡ names' → drawn ≡ drawn' → named ≡ named'
-  → view_with capacity row_capacity refused last claims open_row w reserved names drawn named ≡ view_with capacity row_capacity refused last claims open_row w' reserved' names' drawn' named'
+    → w ≡ w' → reserved ≡ reserved' → names ≡ names' → drawn ≡ drawn' → named ≡ named'
+    → view_with capacity row_capacity refused last claims open_row w reserved names drawn named ≡ view_with capacity row_capacity refused last claims open_row w' reserved' names' drawn' named'
 view-same capacity row_capacity refused last claims open_row w w' reserved reserved' names names' drawn drawn' named named' a b c d e = rw (a, b, c, d, e) refl
 
 -- ---- counts
@@ -206,8 +204,8 @@ module _ (capacity row_capacity : ℕ) (nodes : List (Option Node)) (claims : Li
       let n : Option Node = Some (record { rec = r; state = Unforced 0 }) in
       let free : free_places 0 (slice_set nodes p n) ≡ without p (p + 1) (free_places 0 nodes) = subst (λ z. free_places 0 (slice_set nodes p n) ≡ without z (z + 1) (free_places 0 nodes)) zero_plus (free-filled 0 p nodes (record { rec = r; state = Unforced 0 }) f.0 none) in
       let same : plain_view (slice_set nodes p n) (mark_newest (is_later p r) claims) rows open_row capacity row_capacity refused last ≡ record v { seen = show v.seen p r (Unforced 0); hand = hand_put v.hand p r } =
-        view-same capacity row_capacity refused last (mark_newest (is_later p r) claims) open_row _ (show w p r (Unforced 0)) _ (without p (p + 1) (free_places 0 nodes)) _ (open_names 1 rows) _ (length nodes - fixed_places) _ (length rows)
-          (show-drawn capacity row_capacity nodes rows p r (Unforced 0) f.0) free refl (ap (λ z. z - fixed_places) (length-set nodes p n)) refl in
+      view-same capacity row_capacity refused last (mark_newest (is_later p r) claims) open_row _ (show w p r (Unforced 0)) _ (without p (p + 1) (free_places 0 nodes)) _ (open_names 1 rows) _ (length nodes - fixed_places) _ (length rows)
+      (show-drawn capacity row_capacity nodes rows p r (Unforced 0) f.0) free refl (ap (λ z. z - fixed_places) (length-set nodes p n)) refl in
       subst (λ t. Put v t p r) (sym same) (put v p r inside f.1)
 
   -- the same of what the code has at hand
@@ -275,8 +273,8 @@ module _ (capacity row_capacity : ℕ) (nodes : List (Option Node)) (claims : Li
         let law = lawful_state w s.0 r (Unforced g) (Claimed g) l here h.seen.lawful refl (omega arith) (inl refl) pending (claimed_fits g (count_small s.0 r (Unforced g) here)) (λ d e. cc) in
         let grows = state_grows w s.0 r (Claimed g) l (Unforced g) here refl (omega arith) in
         state_plain s.0 r (Unforced g) (Claimed g) here (fresh_claim s ∷ claims)
-          (won_seen w s.0 r (Unforced g) (Claimed g) l here claims h.seen law grows s refl unclaimed refl none)
-          h.marked (distinct-cons s.0 (claim_places claims) unclaimed h.once) (omega arith)
+        (won_seen w s.0 r (Unforced g) (Claimed g) l here claims h.seen law grows s refl unclaimed refl none)
+        h.marked (distinct-cons s.0 (claim_places claims) unclaimed h.once) (omega arith)
 
     pub won_view : IsWon (plain_view nodes claims rows open_row capacity row_capacity refused last) (plain_view (slice_set nodes s.0 (Some (record { rec = r; state = Claimed g }))) (fresh_claim s ∷ claims) rows open_row capacity row_capacity refused last) s
     won_view =
@@ -301,8 +299,8 @@ module _ (capacity row_capacity : ℕ) (nodes : List (Option Node)) (claims : Li
         let y : cond (is_claimed st) 1 0 ≡ 0 = ap {B = ℕ} (λ z. cond z 1 0) free in
         let len = length-without_claim s claims h.once held_here in
         state_plain s r (Claimed g) st here (without_claim s claims)
-          (released_seen w s r (Claimed g) st l here claims h.seen law grows free)
-          (all-without_claim is_marked_well s claims h.marked) (distinct-without_claim s claims h.once) (omega (arith, y, len))
+        (released_seen w s r (Claimed g) st l here claims h.seen law grows free)
+        (all-without_claim is_marked_well s claims h.marked) (distinct-without_claim s claims h.once) (omega (arith, y, len))
 
     pub completed_plain : (place : Ref) (steps : ℕ) → MayComplete (plain_world capacity row_capacity nodes rows) s place.0 steps → steps < 4194304 → IsPlain capacity row_capacity (slice_set nodes s (Some (record { rec = r; state = Done place steps g }))) (without_claim s claims) rows
     completed_plain place steps value few =
@@ -363,8 +361,8 @@ module _ (capacity row_capacity : ℕ) (nodes : List (Option Node)) (claims : Li
         let zero_plus : 0 + length nodes ≡ run.next = omega (arith, next) in
         let free : free_places 0 (nodes ++ replicate k None) ≡ free_places 0 nodes ++ places_from run.next k = free-append 0 nodes (replicate k None) ∙ ap (λ z. free_places 0 nodes ++ z) (free-replicate (0 + length nodes) k ∙ ap (λ z. places_from z k) zero_plus) in
         let same : plain_view (nodes ++ replicate k None) claims rows open_row capacity row_capacity refused last ≡ record v { hand = hand_reserved v.hand run.next k; drawn = v.drawn + k } =
-          view-same capacity row_capacity refused last claims open_row _ v.seen _ (free_places 0 nodes ++ places_from run.next k) _ (open_names 1 rows) _ (v.drawn + k) _ (length rows)
-            world_same free refl (omega (arith, length_after, five)) refl in
+        view-same capacity row_capacity refused last claims open_row _ v.seen _ (free_places 0 nodes ++ places_from run.next k) _ (open_names 1 rows) _ (v.drawn + k) _ (length rows)
+        world_same free refl (omega (arith, length_after, five)) refl in
         subst (λ t. Reserved v t k run) (sym same) (record {
           grows = grows_refl v.seen;
           size = omega (arith, next, end);

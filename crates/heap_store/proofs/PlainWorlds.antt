@@ -1,8 +1,8 @@
 -- What the drawn places and rows of a plain heap show.
-use Rattle.std.proofs.Common.{◌≡◌, ◌≢◌, ℕ, zero, suc, ◌+◌, ◌-◌, ◌<◌, ◌≤◌, Bool, true, false, List, [], ◌∷◌, ◌++◌, length, replicate, Option, Some, None, refl, sym, ap, ◌∙◌, arith, subst, ◌⊎◌, inl, inr, ⊎_elim, cond, not, ◌&&◌, ◌||◌, eqb}
-use Rattle.std.specs.Prelude.{count_by, slice_set, slice_index_or, option_map}
-use Rattle.std.proofs.lemmas.Bool.{cases_eq, cases_lt, true≢false, and_parts}
-use Rattle.std.proofs.lemmas.List.{get_or_default, get_or_past, length-set, length-append, length-replicate}
+use Rattle.std.proofs.Common.{◌≡◌, ℕ, zero, suc, ◌+◌, ◌<◌, ◌≤◌, Bool, true, false, List, [], length, Option, Some, None, refl, sym, ap, ◌∙◌, arith, subst, ◌⊎◌, inl, inr, ⊎_elim}
+use Rattle.std.specs.Prelude.{slice_set, slice_index_or, option_map}
+use Rattle.std.proofs.lemmas.Bool.{cases_lt, and_parts}
+use Rattle.std.proofs.lemmas.List.{get_or_default, get_or_past}
 use Rattle.lazy_rec.specs.declared.records.Rec.{Rec}
 use Rattle.lazy_rec.specs.declared.states.SuspState.{SuspState}
 use Rattle.lazy_rec.specs.Named.{Records, at_record}
@@ -10,15 +10,14 @@ use Rattle.heap_store.specs.declared.nodes.Node.{Node}
 use Rattle.heap_store.specs.declared.claims.HeldClaim.{HeldClaim}
 use Rattle.heap_store.specs.declared.claims.OpenRow.{OpenRow}
 use Rattle.heap_store.specs.declared.claims.Full.{Full}
-use Rattle.heap_store.specs.World.{World, recs, node_at, state_at, show, holds, is_published, fixed_places}
-use Rattle.heap_store.specs.Rows.{Row, row_of, row_at, words_at, is_ended_at}
+use Rattle.heap_store.specs.World.{World, recs, node_at, show, holds, fixed_places}
+use Rattle.heap_store.specs.Rows.{row_of, row_at, words_at, is_ended_at}
 use Rattle.heap_store.specs.Completion.{is_no_tree}
-use Rattle.heap_store.specs.Lawful.{IsLawful}
-use Rattle.heap_store.specs.Hand.{Hand, IsLawfulHand, contains}
-use Rattle.heap_store.specs.View.{View, IsLawfulView, is_there}
-use Rattle.heap_store.specs.Plain.{IsPlain, IsSeenWell, plain_world, plain_hand, plain_view, filled_up, no_words, free_places, open_names, is_ended_row, is_claimed_node}
+use Rattle.heap_store.specs.Hand.{IsLawfulHand, contains}
+use Rattle.heap_store.specs.View.{IsLawfulView, is_there}
+use Rattle.heap_store.specs.Plain.{IsPlain, plain_world, plain_hand, plain_view, filled_up, no_words, free_places, open_names, is_ended_row}
 use Rattle.heap_store.proofs.GrowthLaws.{at_true}
-use Rattle.heap_store.proofs.PlainLists.{filled-within, filled-beyond, filled-set, filled-more, length-filled, count-filled, free_to, free-same, distinct-free, length-free, open_to, open_from, distinct-open}
+use Rattle.heap_store.proofs.PlainLists.{filled-within, filled-beyond, filled-set, length-filled, count-filled, free_to, distinct-free, length-free, open_to, open_from, distinct-open}
 
 -- ---- places
 
@@ -125,6 +124,11 @@ module _ (capacity row_capacity : ℕ) (nodes : List (Option Node)) (claims : Li
         hand = lawful_hand open_row;
         words = words_six;
         places = omega (arith, counted, all, h.fits);
+        published_low = λ p is. (
+            let t = published_rec (recs (plain_world capacity row_capacity nodes rows)) p (λ _. true) is in
+            let n = rec_node (plain_world capacity row_capacity nodes rows) p t.0 t.1 in
+            omega (arith, drawn_there capacity row_capacity nodes rows p n.0 n.1, h.fits, h.small));
+        reserved_low = λ p m. omega (arith, (free_unpublished p m).0, h.fits, h.small);
         drawn = λ _. omega (arith, counted, all, fixed_drawn);
         room = λ _. omega (arith, h.fits);
         claimed = λ _ s e. h.seen.held s ∙ e;

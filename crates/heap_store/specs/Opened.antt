@@ -1,9 +1,5 @@
 -- The view of a store of one thread, and of one that was just opened.
-use Rattle.std.specs.Prelude.{ℕ, ◌+◌, [], ◌∷◌, List, Option, Some, None, true, reverse, replicate}
-use Rattle.lazy_rec.specs.declared.records.Rec.{Rec}
-use Rattle.lazy_rec.specs.declared.records.Rec.TheVariants.{Nil, LNil, TNil, CatNil, TEmpty}
-use Rattle.lazy_rec.specs.declared.states.SuspState.TheVariants.{Unforced}
-use Rattle.heap_store.specs.declared.nodes.Node.{Node}
+use Rattle.std.specs.Prelude.{ℕ, [], None, reverse}
 use Rattle.heap_store.specs.declared.plain.PlainHeap.{PlainHeap}
 use Rattle.heap_store.specs.View.{View}
 use Rattle.heap_store.specs.Plain.{plain_view, five_records, no_refusal}

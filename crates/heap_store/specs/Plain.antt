@@ -1,6 +1,6 @@
 -- What the fields of the store of one thread mean. It takes its room when it is opened, and fills it as places and names are
 -- drawn: a place that no reserve has given yet shows nothing, and a row whose name isn't drawn shows zeros.
-use Rattle.std.specs.Prelude.{◌≡◌, ℕ, suc, ◌+◌, ◌-◌, ◌<◌, ◌≤◌, ◌∷◌, [], ◌++◌, replicate, eqb, Bool, true, false, not, ◌||◌, cond, Option, Some, None, List, length, count_by, is_some}
+use Rattle.std.specs.Prelude.{◌≡◌, ℕ, suc, ◌+◌, ◌-◌, ◌<◌, ◌≤◌, ◌∷◌, [], ◌++◌, replicate, eqb, Bool, true, false, cond, Option, Some, None, List, length, count_by, is_some}
 use Rattle.std.specs.List.{list_all}
 use Rattle.lazy_rec.specs.declared.records.Rec.{Rec}
 use Rattle.lazy_rec.specs.declared.records.Rec.TheVariants.{Nil, LNil, TNil, CatNil, TEmpty}

@@ -12,7 +12,7 @@ use Rattle.heap_store.specs.declared.claims.HeldClaim.{HeldClaim}
 use Rattle.heap_store.specs.declared.versions.Version.{Version}
 use Rattle.heap_store.specs.World.{World}
 use Rattle.heap_store.specs.Legal.{IsLegal}
-use Rattle.heap_store.specs.Lawful.{HasLaws, IsDoneWell, IsLawful}
+use Rattle.heap_store.specs.Lawful.{IsLawful}
 use Rattle.heap_store.specs.LookedAt.{HasRoots}
 use Rattle.heap_store.specs.Rows.{Row, Ending}
 use Rattle.heap_store.specs.Hand.{Hand, IsLawfulHand}

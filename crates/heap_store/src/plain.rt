@@ -13,7 +13,8 @@ use crate::run::Run;
 use lazy_rec::{NoMemory, Rec, Ref, SuspState};
 use std::alloc::Global;
 
-/// The store of one thread. It takes its room when it is opened: no other call asks for memory.
+/// The store of one thread. It takes its room when it is opened: no other call asks for memory. Places and rows are filled
+/// as they are drawn, so a large store that is little used touches little memory.
 #[derive(Drop)]
 pub struct PlainHeap {
     nodes: Vec<Option<Node>>,
@@ -35,16 +36,22 @@ impl PlainHeap {
     ghost use Rattle.std.specs.Prelude.{◌≡◌, ℕ, ◌≤◌, IfOk};
     ghost use Rattle.heap_store.specs.Opened.{view_of, opened_view};
 
-    /// A store of so many places beside the five fixed ones, and of so many rows.
+    /// A store of so many places beside the five fixed ones, and of so many rows. It fails only for want of memory.
     pub fn open(alloc: Global, nodes: u32, rows: u32) -> Result<PlainHeap, NoMemory>
         requires nodes { nodes ≤ 4000000 }
         requires rows { rows ≤ 200000 }
         ensures { IfOk result (λ h. view_of h ≡ opened_view nodes rows) }
     {
         let places = nodes as usize + 5;
-        let Ok(node_room) = Vec::with_capacity(alloc, places) else { return Err(NoMemory) };
-        let Ok(claims) = Vec::with_capacity(alloc, places) else { return Err(NoMemory) };
-        let Ok(row_room) = Vec::with_capacity(alloc, rows as usize) else { return Err(NoMemory) };
+        let Ok(node_room) = Vec::with_capacity(alloc, places) else {
+            return Err(NoMemory)
+        };
+        let Ok(claims) = Vec::with_capacity(alloc, places) else {
+            return Err(NoMemory)
+        };
+        let Ok(row_room) = Vec::with_capacity(alloc, rows as usize) else {
+            return Err(NoMemory)
+        };
         Ok(PlainHeap {
             nodes: with_fixed_records(node_room),
             claims,
@@ -53,7 +60,10 @@ impl PlainHeap {
             capacity: nodes,
             row_capacity: rows,
             refused: 0,
-            last: Full { drawn: 0, wanted: 0 },
+            last: Full {
+                drawn: 0,
+                wanted: 0,
+            },
         })
     }
 }
@@ -142,7 +152,7 @@ fn add_free_places(nodes: &mut Vec<Option<Node>>, k: u32)
     }
 }
 
-/// Whether a record is a later suspension of a family.
+/// Whether a record is a later suspension of a family, and not the first one.
 #[inline]
 fn is_later(rec: &Rec) -> bool
     ensures { result ≡ is_later 0 rec.now }
@@ -193,7 +203,9 @@ fn release(claims: &mut Vec<HeldClaim>, s: Ref)
 {
     let len = claims.len();
     if len > 0 && claims[len - 1].place.0 == s.0 {
-        let Some(_) = claims.pop() else { unreachable!() };
+        let Some(_) = claims.pop() else {
+            unreachable!()
+        };
         return;
     }
     claims.retain(|c| c.place.0 != s.0);
@@ -201,6 +213,7 @@ fn release(claims: &mut Vec<HeldClaim>, s: Ref)
 
 impl Heap for PlainHeap {
     ghost use Rattle.heap_store.specs.Opened.{view_of};
+
     ghost view = { view_of };
 
     #[inline]
@@ -263,7 +276,9 @@ fn refused_row(row: Option<OpenRow>) -> Option<OpenRow>
 impl Claims for PlainHeap {
     #[inline]
     fn claim(&mut self, s: Ref) -> Claim {
-        let Some(node) = self.nodes[s.0 as usize] else { unreachable!() };
+        let Some(node) = self.nodes[s.0 as usize] else {
+            unreachable!()
+        };
         match node.state {
             SuspState::Unforced { given_up } => {
                 self.nodes[s.0 as usize] = Some(Node {
@@ -286,21 +301,35 @@ impl Claims for PlainHeap {
     }
 
     fn complete(&mut self, s: Ref, place: Ref, steps: u32) {
-        let Some(node) = self.nodes[s.0 as usize] else { unreachable!() };
-        let SuspState::Claimed { given_up } = node.state else { unreachable!() };
+        let Some(node) = self.nodes[s.0 as usize] else {
+            unreachable!()
+        };
+        let SuspState::Claimed { given_up } = node.state else {
+            unreachable!()
+        };
         self.nodes[s.0 as usize] = Some(Node {
             rec: node.rec,
-            state: SuspState::Done { place, steps, given_up },
+            state: SuspState::Done {
+                place,
+                steps,
+                given_up,
+            },
         });
         release(&mut self.claims, s);
     }
 
     fn give_up(&mut self, s: Ref) {
-        let Some(node) = self.nodes[s.0 as usize] else { unreachable!() };
-        let SuspState::Claimed { given_up } = node.state else { unreachable!() };
+        let Some(node) = self.nodes[s.0 as usize] else {
+            unreachable!()
+        };
+        let SuspState::Claimed { given_up } = node.state else {
+            unreachable!()
+        };
         self.nodes[s.0 as usize] = Some(Node {
             rec: node.rec,
-            state: SuspState::Unforced { given_up: given_up.saturating_add(1) },
+            state: SuspState::Unforced {
+                given_up: given_up.saturating_add(1),
+            },
         });
         release(&mut self.claims, s);
     }
@@ -329,7 +358,10 @@ fn open_row_after(row: Option<OpenRow>, name: u32, word: u32, value: u64) -> Opt
     ensures { result ≡ row_after_word name word value row }
 {
     match word {
-        0 if value % 2 == 1 => Some(OpenRow { name, refused: false }),
+        0 if value % 2 == 1 => Some(OpenRow {
+            name,
+            refused: false,
+        }),
         5 => after_end(row, name),
         _ => row,
     }
@@ -339,7 +371,9 @@ impl Rows for PlainHeap {
     fn draw_name(&mut self) -> Result<u32, NamesFull> {
         let drawn = self.rows.len() as u32;
         if drawn == self.row_capacity {
-            return Err(NamesFull { drawn: drawn as u64 });
+            return Err(NamesFull {
+                drawn: drawn as u64,
+            });
         }
         add(&mut self.rows, [0; 6]);
         Ok(drawn + 1)
@@ -352,10 +386,17 @@ impl Rows for PlainHeap {
 
     fn load_row(&mut self, name: u32, word: u32) -> u64 {
         let at = name as usize - 1;
-        if at < self.rows.len() { word_of(&self.rows[at], word) } else { 0 }
+        if at < self.rows.len() {
+            word_of(&self.rows[at], word)
+        } else {
+            0
+        }
     }
 
     fn load_counts(&mut self) -> (u64, u64) {
         (self.rows.len() as u64, self.nodes.len() as u64 - 5)
     }
 }
+
+#[cfg(test)]
+mod tests;

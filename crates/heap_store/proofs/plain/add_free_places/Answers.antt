@@ -1,4 +1,4 @@
-use Rattle.std.proofs.Common.{arith, ◌≡◌, ℕ, ◌∷◌, [], ◌++◌, ◌∙◌, ap, length, length-append, replicate, None, ◌+◌}
+use Rattle.std.proofs.Common.{arith, ◌∷◌, [], ◌++◌, ◌∙◌, ap, length, length-append, replicate, None}
 use Rattle.std.proofs.lemmas.List.{length-replicate, append_assoc, replicate_more}
 use Rattle.heap_store.proofs.plain.add_free_places.Goals as goal
 

@@ -1,6 +1,5 @@
 use Rattle.std.proofs.Common.{arith}
 use Rattle.heap_store.proofs.PlainLists.{reverse-marked}
-use Rattle.heap_store.proofs.PlainSteps.{put_plain}
 use Rattle.heap_store.proofs.plain.mark_newest.Goals as goal
 
 pub returns-then-len-gt0-clause-items : goal.returns-then-len-gt0-clause-items

@@ -1,5 +1,5 @@
-use Rattle.std.proofs.Common.{arith, ◌≡◌, Some, reverse, ◌<◌, length, ◌∷◌, slice_set, true, ◌∙◌, ◌+◌, min}
-use Rattle.lazy_rec.specs.declared.states.SuspState.TheVariants.{Unforced, Claimed, Done}
+use Rattle.std.proofs.Common.{arith, ◌≡◌, Some, reverse, slice_set}
+use Rattle.lazy_rec.specs.declared.states.SuspState.TheVariants.{Unforced, Claimed}
 use Rattle.heap_store.specs.World.{node_at}
 use Rattle.heap_store.specs.Plain.{IsPlain, plain_world}
 use Rattle.heap_store.proofs.PlainReads.{held_none, claimed_is, held_claimed, held_is, within_held, unbuilt_held}

@@ -16,7 +16,7 @@ now_plain : (c : After-mark_newest) → IsPlain c.args.self.now.capacity c.args.
 now_plain c =
     let h = c.args.self.now in
     put_plain_at h.capacity h.row_capacity h.nodes.items (reverse h.claims.items) h.rows.items h.plain h.open_row h.refused h.last c.args.run.now.next c.step-place.result.0 c.args.rec c.fresh.result c.is_later.result (reverse c.mark_newest.new.claims.items)
-      c.step-place.ensures.place c.fresh.ensures c.is_later.ensures c.mark_newest.ensures.items (held (goal.at.invariant_of-self-clause-plain c).After-step-place) c.requires.fits
+    c.step-place.ensures.place c.fresh.ensures c.is_later.ensures c.mark_newest.ensures.items (held (goal.at.invariant_of-self-clause-plain c).After-step-place) c.requires.fits
 
 pub index_mut-requires : goal.index_mut-requires
 index_mut-requires c = omega (arith, within (goal.at.index_mut-requires c).After-step-place, c.args.self.now.nodes.ok.0, c.step-place.ensures.place)
@@ -40,4 +40,4 @@ pub returns-clause-put : goal.returns-clause-put
 returns-clause-put c =
     let h = c.args.self.now in
     put_view_at h.capacity h.row_capacity h.nodes.items (reverse h.claims.items) h.rows.items h.plain h.open_row h.refused h.last c.args.run.now.next c.step-place.result.0 c.args.rec c.fresh.result c.is_later.result (reverse c.mark_newest.new.claims.items)
-      c.step-place.ensures.place c.fresh.ensures c.is_later.ensures c.mark_newest.ensures.items (held (goal.at.returns-clause-put c).After-step-place)
+    c.step-place.ensures.place c.fresh.ensures c.is_later.ensures c.mark_newest.ensures.items (held (goal.at.returns-clause-put c).After-step-place)

@@ -1,4 +1,4 @@
-use Rattle.std.proofs.Common.{arith, ◌≡◌, ◌<◌, ◌≤◌, ◌+◌, ◌-◌, true, length, reverse, ◌∙◌}
+use Rattle.std.proofs.Common.{arith, ◌≤◌, ◌+◌, length, reverse}
 use Rattle.heap_store.specs.World.{fixed_places}
 use Rattle.heap_store.specs.Plain.{IsPlain}
 use Rattle.heap_store.proofs.PlainWorlds.{fixed_drawn, plain_lawful}
@@ -43,4 +43,4 @@ returns-clause-ok c =
     let h = c.args.self.now in
     let five = fixed_drawn h.capacity h.row_capacity h.nodes.items (reverse h.claims.items) h.rows.items h.plain in
     rw c.add_free_places.ensures.items (reserved_view h.capacity h.row_capacity h.nodes.items (reverse h.claims.items) h.rows.items h.plain h.open_row h.refused h.last c.args.k (room (goal.at.returns-clause-ok c).Else-k-self) c.new.result
-      (omega (arith, c.new.ensures.next, c.len.ensures, h.nodes.ok.0, five)) (omega (arith, c.new.ensures.end, c.new.ensures.next, c.len.ensures, h.nodes.ok.0, five)))
+    (omega (arith, c.new.ensures.next, c.len.ensures, h.nodes.ok.0, five)) (omega (arith, c.new.ensures.end, c.new.ensures.next, c.len.ensures, h.nodes.ok.0, five)))

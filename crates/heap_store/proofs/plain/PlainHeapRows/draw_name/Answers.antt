@@ -1,4 +1,4 @@
-use Rattle.std.proofs.Common.{arith, ◌≡◌, ◌<◌, length, reverse}
+use Rattle.std.proofs.Common.{arith, ◌<◌, length, reverse}
 use Rattle.heap_store.specs.Plain.{IsPlain}
 use Rattle.heap_store.proofs.PlainRows.{named_plain, named_view}
 use Rattle.heap_store.proofs.PlainWorlds.{plain_lawful}

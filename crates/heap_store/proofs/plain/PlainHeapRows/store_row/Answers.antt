@@ -1,4 +1,4 @@
-use Rattle.std.proofs.Common.{arith, ◌≡◌, ◌-◌, reverse, slice_set}
+use Rattle.std.proofs.Common.{arith, ◌-◌, reverse, slice_set}
 use Rattle.heap_store.specs.Plain.{IsPlain}
 use Rattle.heap_store.proofs.PlainRows.{name_low, row_drawn, stored_plain_at, stored_view_at}
 use Rattle.heap_store.proofs.PlainWorlds.{plain_lawful}
