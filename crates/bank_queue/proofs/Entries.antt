@@ -21,8 +21,8 @@ items-append xs ys f g = list_all-append is_item xs ys ∙ and_from (items xs) (
 pub items-reverse : (xs : List Entry) → items xs ≡ true → items (reverse xs) ≡ true
 items-reverse [] f = refl
 items-reverse (x ∷ xs) f =
-  let k = and_parts (is_item x) (items xs) f in
-  ap items (reverse-append (x ∷ []) xs) ∙ items-append (reverse xs) (x ∷ []) (items-reverse xs k.1) (and_from (is_item x) true k.0 refl)
+    let k = and_parts (is_item x) (items xs) f in
+    ap items (reverse-append (x ∷ []) xs) ∙ items-append (reverse xs) (x ∷ []) (items-reverse xs k.1) (and_from (is_item x) true k.0 refl)
 
 item_means : (f : ℕ → List ℕ) (x : Entry) → is_item x ≡ true → items_of f x ≡ items_of (λ _. []) x
 item_means f (an_item v) h = refl
@@ -32,8 +32,8 @@ item_means f (a_child p) h = absurd (true≢false (sym h))
 pub items_means : (f : ℕ → List ℕ) (xs : List Entry) → items xs ≡ true → flat_map (items_of f) xs ≡ items_in xs
 items_means f [] h = refl
 items_means f (x ∷ xs) h =
-  let k = and_parts (is_item x) (items xs) h in
-  rw (item_means f x k.0, items_means f xs k.1) refl
+    let k = and_parts (is_item x) (items xs) h in
+    rw (item_means f x k.0, items_means f xs k.1) refl
 
 pub items_in-append : (xs ys : List Entry) → items_in (xs ++ ys) ≡ items_in xs ++ items_in ys
 items_in-append xs ys = flat_map-append (items_of (λ _. [])) xs ys
@@ -58,9 +58,9 @@ queued-length front rear f g = items_in-length (queued front rear) (queued-items
 -- an entry put on the rear
 pub queued-snoc : (front rear : List Entry) (v : ℕ) → items_in (queued front (an_item v ∷ rear)) ≡ items_in (queued front rear) ++ v ∷ []
 queued-snoc front rear v =
-  ap (λ t. items_in (front ++ t)) (reverse-append (an_item v ∷ []) rear)
-  ∙ ap items_in (sym (append_assoc front (reverse rear) (an_item v ∷ [])))
-  ∙ items_in-append (front ++ reverse rear) (an_item v ∷ [])
+    ap (λ t. items_in (front ++ t)) (reverse-append (an_item v ∷ []) rear)
+    ∙ ap items_in (sym (append_assoc front (reverse rear) (an_item v ∷ [])))
+    ∙ items_in-append (front ++ reverse rear) (an_item v ∷ [])
 
 -- ---- equal entries
 

@@ -143,9 +143,9 @@ pub record ItemFirst (rs : Records) (c : Bool) (rest : ℕ) : Type 0 where
 
 pub first_item : (rs : Records) (p rest : ℕ) (c : Bool) (v : ℕ) → has_items rs p ≡ true → cells rs p ≡ entry c v ∷ cells rs rest → ItemFirst rs c rest
 first_item rs p rest c v h e =
-  let k : (is_item (entry c v) && list_all is_item (cells rs rest)) ≡ true = rw e at h in
-  let q = and_parts (is_item (entry c v)) (list_all is_item (cells rs rest)) k in
-  record { is_item = item_entry c v q.0; others = q.1 }
+    let k : (is_item (entry c v) && list_all is_item (cells rs rest)) ≡ true = rw e at h in
+    let q = and_parts (is_item (entry c v)) (list_all is_item (cells rs rest)) k in
+    record { is_item = item_entry c v q.0; others = q.1 }
 
 -- a value with a cell is that cell
 pub some_cell : {w : World} → IsLawful w → (p : ℕ) (r : Rec) → recs w p ≡ Some r → is_cell_or_end r ≡ true → 0 < length (cells (recs w) p) → ((c : Bool) (v : ℕ) (rest : Ref) → r ≡ Cons c v rest → ⊥) → ⊥
@@ -190,13 +190,13 @@ pub record DonePlace (w : World) (p q : ℕ) : Type 0 where
 
 pub done_place : {w : World} → IsLawful w → (p : ℕ) (xs rear : Ref) (left : ℕ) (o : Ref) (off : ℕ) → recs w p ≡ Some (BankRot xs rear left o off) → (d : ℕ × ℕ) → done_at w p ≡ Some d → DonePlace w p d.0
 done_place {w} law p xs rear left o off e d f =
-  let well = law.done p _ e d f in
-  let k = at_true (λ s. not (is_pending s) && same_sort (sort_of s) sorts.Stream) (recs w d.0) well.value in
-  record {
-    value = value_done w p _ d e refl f;
-    there = holds_from (recs w) d.0 is_cell_or_end k.0 k.1 (stream_value k.0 k.2);
-    cells = well.cells
-  }
+    let well = law.done p _ e d f in
+    let k = at_true (λ s. not (is_pending s) && same_sort (sort_of s) sorts.Stream) (recs w d.0) well.value in
+    record {
+      value = value_done w p _ d e refl f;
+      there = holds_from (recs w) d.0 is_cell_or_end k.0 k.1 (stream_value k.0 k.2);
+      cells = well.cells;
+    }
 
 -- what the place of a known rotation shows a later world
 pub record DoneFront (a b : World) (p q : ℕ) : Type 0 where
@@ -211,22 +211,22 @@ pub record DoneFront (a b : World) (p q : ℕ) : Type 0 where
 pub done_front : {a b : World} → IsLawful a → IsLawful b → Grows a b → (p : ℕ) (xs rear : Ref) (left : ℕ) (o : Ref) (off : ℕ) → recs a p ≡ Some (BankRot xs rear left o off) → is_value a p ≡ true
     → 0 < length (cells (recs a) p) → has_items (recs a) p ≡ true → (place : Ref) (steps given : ℕ) → state_at b p ≡ Some (Done place steps given) → DoneFront a b p place.0
 done_front {a} {b} law law2 g p xs rear left o off e known some items place steps given f =
-  let d = known_done a p _ e refl known in
-  let later = done_grows g p d.0 d.1 in
-  let now = done_of_state law2 p (Done place steps given) f in
-  let same : d.0.0 ≡ place.0 = ap (elim [ None ↦ 0 | Some k ↦ k.0 ]) (sym later ∙ now) in
-  let k = done_place law p xs rear left o off e d.0 d.1 in
-  let t = at_true is_cell_or_end (recs a d.0.0) k.there in
-  let c = sym (cells_kept (recs a) (recs b) (lawful_names law) g.records d.0.0 (t.0, t.1)) ∙ k.cells in
-  rw (← same) (record {
-    value = k.value;
-    there = (t.0, t.1);
-    grows = g;
-    law = law;
-    some = rw c some;
-    items = rw c items;
-    cell = holds_from (recs b) d.0.0 is_cell_or_end t.0 (g.records d.0.0 t.0 t.1) t.2
-  })
+    let d = known_done a p _ e refl known in
+    let later = done_grows g p d.0 d.1 in
+    let now = done_of_state law2 p (Done place steps given) f in
+    let same : d.0.0 ≡ place.0 = ap (elim [ None ↦ 0 | Some k ↦ k.0 ]) (sym later ∙ now) in
+    let k = done_place law p xs rear left o off e d.0 d.1 in
+    let t = at_true is_cell_or_end (recs a d.0.0) k.there in
+    let c = sym (cells_kept (recs a) (recs b) (lawful_names law) g.records d.0.0 (t.0, t.1)) ∙ k.cells in
+    rw (← same) (record {
+      value = k.value;
+      there = (t.0, t.1);
+      grows = g;
+      law = law;
+      some = rw c some;
+      items = rw c items;
+      cell = holds_from (recs b) d.0.0 is_cell_or_end t.0 (g.records d.0.0 t.0 t.1) t.2;
+    })
 
 pub found_done : {a b : World} {p q : ℕ} → DoneFront a b p q → (r : Rec) → recs b q ≡ Some r → value_at a p ≡ Some r
 found_done {a} {b} {p} {q} k r e = k.value ∙ rec_back k.law q r k.grows k.there e
@@ -234,11 +234,11 @@ found_done {a} {b} {p} {q} k r e = k.value ∙ rec_back k.law q r k.grows k.ther
 pub undone : {a b : World} → IsLawful a → IsLawful b → Grows a b → (p : ℕ) (xs rear : Ref) (left : ℕ) (o : Ref) (off : ℕ) → recs a p ≡ Some (BankRot xs rear left o off) → is_value a p ≡ true
     → (s : SuspState) → state_at b p ≡ Some s → ((x : ℕ) × (s ≡ Unforced x)) ⊎ ((x : ℕ) × (s ≡ Claimed x)) → ⊥
 undone {a} {b} law law2 g p xs rear left o off e known s f h =
-  let d = known_done a p _ e refl known in
-  let later = done_grows g p d.0 d.1 in
-  let now = not_done law2 p s f h in
-  let z : Some d.0 ≡ None = sym later ∙ now in
-  cc
+    let d = known_done a p _ e refl known in
+    let later = done_grows g p d.0 d.1 in
+    let now = not_done law2 p s f h in
+    let z : Some d.0 ≡ None = sym later ∙ now in
+    cc
 
 -- what the place of a value shows a later world
 pub record ValueFront (a b : World) (p : ℕ) (r : Rec) : Type 0 where
@@ -249,14 +249,14 @@ pub record ValueFront (a b : World) (p : ℕ) (r : Rec) : Type 0 where
 
 pub value_front : {a b : World} → IsLawful a → Grows a b → (p : ℕ) (r : Rec) → recs a p ≡ Some r → is_front (recs a) p ≡ true → 0 < length (cells (recs a) p) → has_items (recs a) p ≡ true → IsRotation r → ValueFront a b p r
 value_front {a} {b} law g p r e front some items n =
-  let v = front_value law p r e front (other_record r n) in
-  let c = cells_kept (recs a) (recs b) (lawful_names law) g.records p (r, e) in
-  record {
-    waits = value_waits r v;
-    some = rw c at some;
-    items = rw c at items;
-    cell = holds_from (recs b) p is_cell_or_end r (g.records p r e) v
-  }
+    let v = front_value law p r e front (other_record r n) in
+    let c = cells_kept (recs a) (recs b) (lawful_names law) g.records p (r, e) in
+    record {
+      waits = value_waits r v;
+      some = rw c at some;
+      items = rw c at items;
+      cell = holds_from (recs b) p is_cell_or_end r (g.records p r e) v;
+    }
 
 pub found_value : {a b : World} → IsLawful a → Grows a b → (p : ℕ) (r : Rec) → recs a p ≡ Some r → ValueFront a b p r → (s : Rec) → recs b p ≡ Some s → value_at a p ≡ Some s
 found_value {a} {b} law g p r e k s f = let same = rec_back law p s g (r, e) f in value_self a p r e k.waits ∙ sym e ∙ same

@@ -81,7 +81,7 @@ list_length {w} law = from_lower (λ p. (r : Rec) → recs w p ≡ Some r → is
     step : (p : ℕ) (r : Rec) → recs w p ≡ Some r → is_list r ≡ true → ((q : ℕ) → q < p → (s : Rec) → recs w q ≡ Some s → is_list s ≡ true → length (cells (recs w) q) ≤ q) → length (cells (recs w) p) ≤ p
     step p LNil e h ih = rw (cells_is (recs w) (lawful_names law) p LNil e) (omega arith)
     step p (LCons c v rest) e h ih =
-      let n = (lawful_names law p (LCons c v rest) e).0 in
-      let k = ih rest.0 n.0 n.1 n.2 (ap (λ s. same_sort s sorts.List) n.3) in
-      rw (cells_is (recs w) (lawful_names law) p (LCons c v rest) e) (omega (arith, k, n.0))
+        let n = (lawful_names law p (LCons c v rest) e).0 in
+        let k = ih rest.0 n.0 n.1 n.2 (ap (λ s. same_sort s sorts.List) n.3) in
+        rw (cells_is (recs w) (lawful_names law) p (LCons c v rest) e) (omega (arith, k, n.0))
     step p _ e h ih = absurd (true≢false (sym h))

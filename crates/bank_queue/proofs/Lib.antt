@@ -6,3 +6,4 @@ pub mod Rotations
 pub mod Reversals
 pub mod Entries
 pub mod Queues
+pub mod Operations

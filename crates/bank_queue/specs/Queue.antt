@@ -8,6 +8,8 @@ use Rattle.lazy_rec.specs.declared.events.Op.TheVariants as ops
 use Rattle.lazy_rec.specs.Plain.{most_items}
 use Rattle.lazy_rec.specs.Meaning.{Entry, items_of, cells}
 use Rattle.heap_store.specs.declared.jobs.EventJob.{EventJob}
+use Rattle.heap_store.specs.declared.jobs.After.{After}
+use Rattle.heap_store.specs.declared.jobs.After.TheVariants.{End, Next}
 use Rattle.heap_store.specs.World.{World, recs, holds, is_value}
 use Rattle.heap_store.specs.Lawful.{has_items, is_rotated}
 use Rattle.bank_queue.specs.declared.queue.Top.{Top}
@@ -71,3 +73,8 @@ pub record IsNearQueue (w : World) (t : Top) (place : ℕ) : Type 0 where
   pub rear_low : t.rear.0 < place
   pub near : t.lenr ≤ t.lenf + 1
   pub rotated : t.lenr ≤ t.lenf → (t.rotated ≡ true) × (t.origin.0 < place) × (is_rotated (recs w) t.front.0 t.lenf t.origin.0 t.n t.tails ≡ true)
+
+-- the event ended at this root
+abbrev pub ends_at : After → ℕ → Bool
+ends_at (End root _ _) p = eqb root.0 p
+ends_at (Next _) p = false

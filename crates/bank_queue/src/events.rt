@@ -4,7 +4,7 @@ ghost use Rattle.heap_store.specs.World.{recs};
 ghost use Rattle.heap_store.specs.Lawful.{is_any_bank_rotation};
 ghost use Rattle.heap_store.specs.View.{Quiet};
 ghost use Rattle.heap_store.specs.Jobs.{IsJob, EventPrepared, IsEventBuildable, IsEventBuilt};
-ghost use Rattle.bank_queue.specs.Queue.{top_record, places_for, looks_at_front, IsReadyEvent};
+ghost use Rattle.bank_queue.specs.Queue.{top_record, places_for, looks_at_front, ends_at, IsReadyEvent};
 
 use crate::front::{first_cell, is_known};
 use crate::queue::{Top, put_top, read_top};
@@ -28,8 +28,9 @@ pub fn prepare_event<H: Heap>(h: &mut H, job: &EventJob, cursor: &mut Cursor) ->
         nodes: places(job.op, &top),
     };
     if !looks(job.op, &top) {
-        ready
-    } else if is_known(h, top.front) {
+        return ready;
+    }
+    if is_known(h, top.front) {
         ready
     } else {
         Prep::Need(top.front)
@@ -40,7 +41,8 @@ pub fn prepare_event<H: Heap>(h: &mut H, job: &EventJob, cursor: &mut Cursor) ->
 pub fn build_event<H: Heap>(h: &mut H, job: &EventJob, cursor: &Cursor, run: &mut Run) -> After
     requires kind { job.now.base.kind ≡ Kind.Bankq }
     requires build { IsEventBuildable IsReadyEvent (H.view h.old) job.now run.old }
-    ensures { IsEventBuilt (H.view h.old) (H.view h.new) job.now run.old run.new result }
+    ensures built { IsEventBuilt (H.view h.old) (H.view h.new) job.now run.old run.new result }
+    ensures base { run.old.next ≡ run.old.end → ends_at result job.now.base.root.0 ≡ true }
 {
     match job.op {
         Op::Snoc => snoc(h, job, run),
@@ -103,13 +105,14 @@ fn snoc<H: Heap>(h: &mut H, job: &EventJob, run: &mut Run) -> After
     requires kind { job.now.base.kind ≡ Kind.Bankq }
     requires op { job.now.op ≡ Op.Snoc }
     requires build { IsEventBuildable IsReadyEvent (H.view h.old) job.now run.old }
-    ensures { IsEventBuilt (H.view h.old) (H.view h.new) job.now run.old run.new result }
+    ensures built { IsEventBuilt (H.view h.old) (H.view h.new) job.now run.old run.new result }
+    ensures base { run.old.next ≡ run.old.end → ends_at result job.now.base.root.0 ≡ true }
 {
     if job.base.size == MOST_ITEMS {
         return same(&job.base, Reply::TooLong);
     }
-    let mut top = read_top(h, job.base.root);
-    top.rear = h.put(
+    let top = read_top(h, job.base.root);
+    let rear = h.put(
         run,
         Rec::LCons {
             child: false,
@@ -117,8 +120,12 @@ fn snoc<H: Heap>(h: &mut H, job: &EventJob, run: &mut Run) -> After
             rest: top.rear,
         },
     );
-    top.lenr += 1;
-    let root = put_top(h, top, run);
+    let longer = Top {
+        rear,
+        lenr: top.lenr + 1,
+        ..top
+    };
+    let root = put_top(h, longer, run);
     After::End {
         root,
         size: job.base.size + 1,
@@ -130,17 +137,21 @@ fn tail<H: Heap>(h: &mut H, job: &EventJob, run: &mut Run) -> After
     requires kind { job.now.base.kind ≡ Kind.Bankq }
     requires op { job.now.op ≡ Op.Tail }
     requires build { IsEventBuildable IsReadyEvent (H.view h.old) job.now run.old }
-    ensures { IsEventBuilt (H.view h.old) (H.view h.new) job.now run.old run.new result }
+    ensures built { IsEventBuilt (H.view h.old) (H.view h.new) job.now run.old run.new result }
+    ensures base { run.old.next ≡ run.old.end → ends_at result job.now.base.root.0 ≡ true }
 {
-    let mut top = read_top(h, job.base.root);
+    let top = read_top(h, job.base.root);
     if top.lenf == 0 {
         return same(&job.base, Reply::Empty);
     }
     let cell = first_cell(h, top.front);
-    top.front = cell.rest;
-    top.lenf -= 1;
-    top.tails += 1;
-    let root = put_top(h, top, run);
+    let shorter = Top {
+        front: cell.rest,
+        lenf: top.lenf - 1,
+        tails: top.tails + 1,
+        ..top
+    };
+    let root = put_top(h, shorter, run);
     After::End {
         root,
         size: job.base.size - 1,
@@ -152,7 +163,8 @@ fn head<H: Heap>(h: &mut H, job: &EventJob, run: &mut Run) -> After
     requires kind { job.now.base.kind ≡ Kind.Bankq }
     requires op { job.now.op ≡ Op.Head }
     requires build { IsEventBuildable IsReadyEvent (H.view h.old) job.now run.old }
-    ensures { IsEventBuilt (H.view h.old) (H.view h.new) job.now run.old run.new result }
+    ensures built { IsEventBuilt (H.view h.old) (H.view h.new) job.now run.old run.new result }
+    ensures base { run.old.next ≡ run.old.end → ends_at result job.now.base.root.0 ≡ true }
 {
     let top = read_top(h, job.base.root);
     if top.lenf == 0 {

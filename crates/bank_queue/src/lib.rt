@@ -10,3 +10,4 @@ pub mod rotation;
 pub use events::{build_event, prepare_event};
 pub use jobs::BankJobs;
 pub use queue::new_queue;
+pub use rotation::{build, prepare};

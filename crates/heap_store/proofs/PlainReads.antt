@@ -6,7 +6,7 @@ use Rattle.std.specs.Prelude.{slice_index_or, option_map}
 use Rattle.lazy_rec.specs.declared.records.Rec.{Rec}
 use Rattle.lazy_rec.specs.declared.states.SuspState.{SuspState}
 use Rattle.heap_store.specs.declared.nodes.Node.{Node}
-use Rattle.heap_store.specs.World.{recs, node_at, state_at, holds}
+use Rattle.heap_store.specs.World.{World, recs, node_at, state_at, holds}
 use Rattle.lazy_rec.specs.declared.states.SuspState.TheVariants.{Unforced, Claimed, Done}
 use Rattle.lazy_rec.specs.States.{is_claimed}
 use Rattle.heap_store.specs.declared.claims.HeldClaim.{HeldClaim}

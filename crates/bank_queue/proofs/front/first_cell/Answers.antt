@@ -18,24 +18,24 @@ state-requires g c = rw (c.read.ensures.quiet.grows.records c.args.p.0 _ c.read.
 
 here : (g : _) (c : In-Done g) → DoneFront (g.H.Heap.view c.args.h.now).seen (g.H.Heap.view c.state.new.self).seen c.args.p.0 c.in-Done.place.0
 here g c =
-  let r = c.in-BankRot in
-  done_front (g.met.H.Heap.lawful c.args.h.now).world (g.met.H.Heap.lawful c.state.new.self).world (grows_trans c.read.ensures.quiet.grows c.state.ensures.quiet.grows) c.args.p.0 r.xs r.rear r.left r.origin r.off (c.read.ensures.rec ∙ ap Some r.is) c.requires.known c.requires.some c.requires.items c.in-Done.place c.in-Done.steps c.in-Done.given_up c.in-Done.ensures.state
+    let r = c.in-BankRot in
+    done_front (g.met.H.Heap.lawful c.args.h.now).world (g.met.H.Heap.lawful c.state.new.self).world (grows_trans c.read.ensures.quiet.grows c.state.ensures.quiet.grows) c.args.p.0 r.xs r.rear r.left r.origin r.off (c.read.ensures.rec ∙ ap Some r.is) c.requires.known c.requires.some c.requires.items c.in-Done.place c.in-Done.steps c.in-Done.given_up c.in-Done.ensures.state
 
 pub cell_at-requires : goal.cell_at-requires
 cell_at-requires g c = let k = here g (goal.at.cell_at-requires g c).In-Done in record { some = k.some; items = k.items; cell = k.cell }
 
 pub returns-in-Done : goal.returns-in-Done
 returns-in-Done g c =
-  let k = here g (goal.at.returns-in-Done g c).In-Done in
-  record {
-    quiet = Quiet_trans c.read.ensures.quiet (Quiet_trans c.state.ensures.quiet c.cell_at.ensures.quiet);
-    cell = found_done k _ c.cell_at.ensures.cell
-  }
+    let k = here g (goal.at.returns-in-Done g c).In-Done in
+    record {
+      quiet = Quiet_trans c.read.ensures.quiet (Quiet_trans c.state.ensures.quiet c.cell_at.ensures.quiet);
+      cell = found_done k _ c.cell_at.ensures.cell;
+    }
 
 pub unreachable-requires : goal.unreachable-requires
 unreachable-requires g c =
-  let r = c.in-BankRot in
-  undone (g.met.H.Heap.lawful c.args.h.now).world (g.met.H.Heap.lawful c.state.new.self).world (grows_trans c.read.ensures.quiet.grows c.state.ensures.quiet.grows) c.args.p.0 r.xs r.rear r.left r.origin r.off (c.read.ensures.rec ∙ ap Some r.is) c.requires.known c.state.result c.state.ensures.state c.in-Unforced.is
+    let r = c.in-BankRot in
+    undone (g.met.H.Heap.lawful c.args.h.now).world (g.met.H.Heap.lawful c.state.new.self).world (grows_trans c.read.ensures.quiet.grows c.state.ensures.quiet.grows) c.args.p.0 r.xs r.rear r.left r.origin r.off (c.read.ensures.rec ∙ ap Some r.is) c.requires.known c.state.result c.state.ensures.state c.in-Unforced.is
 
 value : (g : _) (c : In_default g) → ValueFront (g.H.Heap.view c.args.h.now).seen (g.H.Heap.view c.read.new.self).seen c.args.p.0 c.read.result
 value g c = value_front (g.met.H.Heap.lawful c.args.h.now).world c.read.ensures.quiet.grows c.args.p.0 c.read.result c.read.ensures.rec c.requires.front c.requires.some c.requires.items c.in_default.not-BankRot
@@ -45,8 +45,8 @@ cell_at-requires-in_default g c = let k = value g (goal.at.cell_at-requires-in_d
 
 pub returns-in_default : goal.returns-in_default
 returns-in_default g c =
-  let k = value g (goal.at.returns-in_default g c).In_default in
-  record {
-    quiet = Quiet_trans c.read.ensures.quiet c.cell_at-in_default.ensures.quiet;
-    cell = found_value (g.met.H.Heap.lawful c.args.h.now).world c.read.ensures.quiet.grows c.args.p.0 c.read.result c.read.ensures.rec k _ c.cell_at-in_default.ensures.cell
-  }
+    let k = value g (goal.at.returns-in_default g c).In_default in
+    record {
+      quiet = Quiet_trans c.read.ensures.quiet c.cell_at-in_default.ensures.quiet;
+      cell = found_value (g.met.H.Heap.lawful c.args.h.now).world c.read.ensures.quiet.grows c.args.p.0 c.read.result c.read.ensures.rec k _ c.cell_at-in_default.ensures.cell;
+    }

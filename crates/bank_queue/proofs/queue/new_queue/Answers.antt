@@ -8,9 +8,9 @@ put-requires-clause-fits g c = fits_empty (g.met.H.Heap.lawful c.args.h.now) c.a
 
 pub returns-clause-filled : goal.returns-clause-filled
 returns-clause-filled g c =
-  let f = filling_put (filling_start _ _ c.requires.held) c.put.ensures.put c.put.ensures.run in
-  let e : c.put.new.run.next ≡ c.args.run.now.end = rw c.put.ensures.run (omega (arith, c.requires.size)) in
-  rw e at f.filled
+    let f = filling_put (filling_start _ _ c.requires.held) c.put.ensures.put c.put.ensures.run in
+    let e : c.put.new.run.next ≡ c.args.run.now.end = rw c.put.ensures.run (omega (arith, c.requires.size)) in
+    rw e at f.filled
 
 pub returns-clause-empty : goal.returns-clause-empty
 returns-clause-empty g c = rw c.put.ensures.place (empty_means (g.met.H.Heap.lawful c.put.new.self).world c.args.run.now.next c.put.ensures.put.here)

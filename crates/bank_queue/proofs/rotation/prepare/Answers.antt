@@ -20,10 +20,10 @@ is_known-requires g c = (parts g (goal.at.is_known-requires g c).In-BankRot).fro
 
 pub returns-then-is_known-clause-answer : goal.returns-then-is_known-clause-answer
 returns-then-is_known-clause-answer g c =
-  let r = c.in-BankRot in
-  ready_next (g.met.H.Heap.lawful c.is_known.new.h).world c.args.s.0 r.xs r.rear r.left r.origin r.off (omega arith) (c.is_known.ensures.quiet.grows.records _ _ (here g (goal.at.returns-then-is_known-clause-answer g c).In-BankRot)) (c.is_known.ensures.known c.if-is_known.true)
+    let r = c.in-BankRot in
+    ready_next (g.met.H.Heap.lawful c.is_known.new.h).world c.args.s.0 r.xs r.rear r.left r.origin r.off (omega arith) (c.is_known.ensures.quiet.grows.records _ _ (here g (goal.at.returns-then-is_known-clause-answer g c).In-BankRot)) (c.is_known.ensures.known c.if-is_known.true)
 
 pub returns-else-is_known-clause-answer : goal.returns-else-is_known-clause-answer
 returns-else-is_known-clause-answer g c =
-  let r = c.in-BankRot in
-  need_next (g.met.H.Heap.lawful c.is_known.new.h).world c.args.s.0 r.xs r.rear r.left r.origin r.off (omega arith) (c.is_known.ensures.quiet.grows.records _ _ (here g (goal.at.returns-else-is_known-clause-answer g c).In-BankRot)) (c.is_known.ensures.rotation c.if-is_known.false) (c.is_known.ensures.not_done c.if-is_known.false)
+    let r = c.in-BankRot in
+    need_next (g.met.H.Heap.lawful c.is_known.new.h).world c.args.s.0 r.xs r.rear r.left r.origin r.off (omega arith) (c.is_known.ensures.quiet.grows.records _ _ (here g (goal.at.returns-else-is_known-clause-answer g c).In-BankRot)) (c.is_known.ensures.rotation c.if-is_known.false) (c.is_known.ensures.not_done c.if-is_known.false)

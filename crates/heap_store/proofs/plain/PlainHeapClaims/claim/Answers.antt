@@ -78,3 +78,6 @@ returns-in-Done c =
       steps = c.in-Done.steps;
       done = ap (option_and_then (λ (n : Node). kept n.state)) (node_is h.capacity h.row_capacity h.nodes.items h.rows.items c.args.s.0 is_pending c.requires c.index.result.now c.index.ensures c.in-Some.node (Done c.in-Done.place c.in-Done.steps c.in-Done.given_up) c.in-Some.is c.in-Done.is);
     }
+
+pub index-requires : goal.index-requires
+index-requires c = let h = c.args.self.now in omega (arith, within_read h.capacity h.row_capacity h.nodes.items h.rows.items c.args.s.0 is_pending c.requires, h.nodes.ok.0)
