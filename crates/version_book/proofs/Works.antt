@@ -47,9 +47,9 @@ worked_trans f g = record { grows = grows_trans f.grows g.grows; hand = g.hand �
 pub worked_balked : {a b c : View} {refusal : Full} → Worked a b → Balked b c refusal → Balked a c refusal
 worked_balked f g = record { grows = grows_trans f.grows g.grows; hand = g.hand ∙ ap hand_refused f.hand; last = g.last; about = g.about ∙ f.about; rows = SameRows_trans f.rows g.rows; drawn = g.drawn; asked = g.asked; no_room = g.no_room }
 
-pub worked_stopped : {a b c : View} (cause : GiveUp) → Worked a b → Stopped b c cause → Stopped a c cause
-worked_stopped (causes.Full refusal) f g = worked_balked f g
-worked_stopped causes.NoMemory f g = worked_trans f g
+pub worked_stopped : {a b : View} (c : View) (cause : GiveUp) → Worked a b → Stopped b c cause → Stopped a c cause
+worked_stopped c (causes.Full refusal) f g = worked_balked f g
+worked_stopped c causes.NoMemory f g = worked_trans f g
 
 -- a quiet call on an own heap leaves all as it was
 pub quiet_same : {a b : View} → IsOwn a → Quiet a b → b ≡ a
@@ -140,8 +140,8 @@ no_second a b job does does' t u place x same kind va vb first kept second =
     let g = the_front b job does' u same kind vb second in
     let r : f.0 ≡ g.0 = one_value _ _ (sym (x.records job.base.root.0 f.0 f.1) ∙ g.1) in
     let e : t ≡ u = sym f.2 ∙ ap front_of r ∙ g.2 in
-    let z : Some (place, kept.steps) ≡ None = sym kept.done ∙ (rw e second.not_done) in
-    cc
+    let z : done_at b u ≡ Some (place, kept.steps) = rw e at kept.done in
+    absurd (Some≢None (sym z ∙ second.not_done))
 
 -- ---- reserves
 
@@ -167,7 +167,7 @@ in_hand {a} {b} {k} {run} r =
 
 no_claims : (cs : List HeldClaim) → claim_places cs ≡ [] → cs ≡ []
 no_claims [] e = refl
-no_claims (c ∷ cs) e = cc
+no_claims (c ∷ cs) e = absurd (∷≢[] e)
 
 -- a run that was reserved and filled leaves the hand as it was
 pub filled_worked : {a b c : View} {k : ℕ} {run : Span} → IsOwn a → Reserved a b k run → Filled b c run.next run.end → Worked a c

@@ -1,8 +1,9 @@
 -- One event's work, and one event run, on a heap that no other hand works on.
-use Rattle.std.specs.Prelude.{◌≡◌, ℕ, ◌+◌, ◌<◌, ◌≤◌, Bool, true, false, not, ◌||◌, Option, Some, None, List, []}
+use Rattle.std.specs.Prelude.{◌≡◌, ℕ, ◌+◌, ◌<◌, ◌≤◌, Bool, true, false, not, ◌||◌, Option, Some, None, List, [], Result, Ok, Err}
 use Rattle.std.specs.List.{list_all}
 use Rattle.lazy_rec.specs.declared.places.Ref.{Ref}
-use Rattle.lazy_rec.specs.declared.events.Kind.TheVariants as kinds
+use Rattle.lazy_rec.specs.declared.events.Kind.{Kind}
+use Rattle.lazy_rec.specs.declared.events.Kind.TheVariants.{Bankq}
 use Rattle.lazy_rec.specs.declared.events.Event.{Event}
 use Rattle.lazy_rec.specs.declared.events.Reply.{Reply}
 use Rattle.lazy_rec.specs.declared.events.Reply.TheVariants as replies
@@ -14,7 +15,7 @@ use Rattle.heap_store.specs.declared.jobs.EventJob.{EventJob}
 use Rattle.heap_store.specs.declared.versions.Version.{Version}
 use Rattle.heap_store.specs.World.{World, recs, holds}
 use Rattle.heap_store.specs.Growth.{Grows}
-use Rattle.heap_store.specs.Rows.{Row, full, row_at, is_ended, is_ended_at, events_of}
+use Rattle.heap_store.specs.Rows.{Row, Ending, answered, full, memory, row_at, is_ended, is_ended_at, events_of}
 use Rattle.heap_store.specs.Lawful.{is_root}
 use Rattle.heap_store.specs.Hand.{Hand, hand_refused}
 use Rattle.heap_store.specs.View.{View, SameRows}
@@ -64,7 +65,7 @@ pub record Outdone (old new : View) (job : EventJob) (o : Outcome) : Type 0 wher
 -- the outcome is an empty queue
 pub record MadeQueue (old new : View) (o : Outcome) : Type 0 where
   pub worked : Worked old new
-  pub root : holds (recs new.seen) o.root.0 (is_root (recs new.seen) kinds.Bankq o.root.0) ≡ true
+  pub root : holds (recs new.seen) o.root.0 (is_root (recs new.seen) Bankq o.root.0) ≡ true
   pub empty : means (recs new.seen) o.root.0 ≡ []
   pub size : o.size ≡ 0
   pub reply : o.reply ≡ replies.Ok
@@ -83,7 +84,7 @@ pub record ComesNext (v : View) (e : Event) : Type 0 where
   pub next : IsNextEvent v (v.named + 1) e
   pub ended : list_all (is_ended_at (row_at v.seen)) (bases e) ≡ true
   pub kinds : is_of_its_kind (events_of (row_at v.seen)) e ≡ true
-  pub queue : kind_made (kind_of (events_of (row_at v.seen))) (Some e) ≡ Some kinds.Bankq
+  pub queue : kind_made (kind_of (events_of (row_at v.seen))) (Some e) ≡ Some Bankq
 
 -- the event was run under the next name, and its row has ended
 pub record Ran (old new : View) (e : Event) : Type 0 where
@@ -97,3 +98,9 @@ pub record Ran (old new : View) (e : Event) : Type 0 where
   pub caller : row.caller ≡ 0
   pub ended : is_ended row.ending ≡ true
   pub full_where : (drawn wanted : ℕ) → row.ending ≡ full drawn wanted → old.about.capacity < drawn + wanted
+
+-- the row of the name has ended, with an answer or with the cause of its refusal, as the work came out
+abbrev pub ending_made : ℕ → Kind → Result Outcome GiveUp → Ending
+ending_made name kind (Ok o) = answered o.reply (record { name = name; kind = kind; size = o.size; root = o.root })
+ending_made name kind (Err (causes.Full refusal)) = full refusal.drawn refusal.wanted
+ending_made name kind (Err causes.NoMemory) = memory
