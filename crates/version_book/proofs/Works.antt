@@ -133,6 +133,9 @@ the_front w job does t same kind version need =
     once true h = h
     once false h = h
 
+absurd_some : {X : Type 0} {x : X} → Some x ≡ None → ⊥
+absurd_some e = cc
+
 -- after its front is done, a queue needs nothing more
 pub no_second : (a b : World) (job : EventJob) (does does' : Rec → Bool) (t u place : ℕ) → Grows a b → job.other ≡ job.base → job.base.kind ≡ kinds.Bankq → IsVersion a job.base → IsVersion b job.base → IsEventNeed does a job t → IsKept b t place → IsEventNeed does' b job u → ⊥
 no_second a b job does does' t u place x same kind va vb first kept second =
@@ -141,7 +144,7 @@ no_second a b job does does' t u place x same kind va vb first kept second =
     let r : f.0 ≡ g.0 = one_value _ _ (sym (x.records job.base.root.0 f.0 f.1) ∙ g.1) in
     let e : t ≡ u = sym f.2 ∙ ap front_of r ∙ g.2 in
     let z : done_at b u ≡ Some (place, kept.steps) = rw e at kept.done in
-    absurd (Some≢None (sym z ∙ second.not_done))
+    absurd_some (sym z ∙ second.not_done)
 
 -- ---- reserves
 
@@ -167,7 +170,7 @@ in_hand {a} {b} {k} {run} r =
 
 no_claims : (cs : List HeldClaim) → claim_places cs ≡ [] → cs ≡ []
 no_claims [] e = refl
-no_claims (c ∷ cs) e = absurd (∷≢[] e)
+no_claims (c ∷ cs) e = cc
 
 -- a run that was reserved and filled leaves the hand as it was
 pub filled_worked : {a b c : View} {k : ℕ} {run : Span} → IsOwn a → Reserved a b k run → Filled b c run.next run.end → Worked a c

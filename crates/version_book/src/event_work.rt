@@ -26,6 +26,7 @@ fn make_ready<R: Rows>(heap: &mut R, stack: &mut Stack, job: &EventJob) -> Resul
     requires job { IsJob (R.view heap.old).seen job.now }
     requires start { job.now.stage ≡ Stage.Start }
     requires kind { job.now.base.kind ≡ Kind.Bankq }
+    requires same { job.now.other ≡ job.now.base }
     ensures ok { IfOk result (λ nodes. ReadyNow (R.view heap.old) (R.view heap.new) job.now nodes) }
     ensures err { IfErr result (λ cause. Stopped (R.view heap.old) (R.view heap.new) cause) }
     ensures empty { stack.new ≡ [] }
@@ -34,7 +35,9 @@ fn make_ready<R: Rows>(heap: &mut R, stack: &mut Stack, job: &EventJob) -> Resul
     match prepare_event(heap, job, &mut cursor) {
         Prep::Ready { nodes } => Ok(nodes),
         Prep::Need(need) => {
-            force_solo(heap, &BankJobs, stack, need)?;
+            if let Err(cause) = force_solo(heap, &BankJobs, stack, need) {
+                return Err(cause);
+            }
             match prepare_event(heap, job, &mut cursor) {
                 Prep::Ready { nodes } => Ok(nodes),
                 Prep::Need(_) => unreachable!(),
@@ -74,14 +77,17 @@ pub(crate) fn work<R: Rows>(heap: &mut R, stack: &mut Stack, job: &EventJob) -> 
     requires job { IsJob (R.view heap.old).seen job.now }
     requires start { job.now.stage ≡ Stage.Start }
     requires kind { job.now.base.kind ≡ Kind.Bankq }
+    requires same { job.now.other ≡ job.now.base }
     ensures ok { IfOk result (λ outcome. Outdone (R.view heap.old) (R.view heap.new) job.now outcome) }
     ensures err { IfErr result (λ cause. Stopped (R.view heap.old) (R.view heap.new) cause) }
     ensures empty { stack.new ≡ [] }
 {
-    let nodes = make_ready(heap, stack, job)?;
-    match make_result(heap, job, nodes) {
-        Ok(outcome) => Ok(outcome),
-        Err(refusal) => Err(GiveUp::Full(refusal)),
+    match make_ready(heap, stack, job) {
+        Err(cause) => Err(cause),
+        Ok(nodes) => match make_result(heap, job, nodes) {
+            Ok(outcome) => Ok(outcome),
+            Err(refusal) => Err(GiveUp::Full(refusal)),
+        },
     }
 }
 

@@ -1,0 +1,14 @@
+use Rattle.std.proofs.Common.{rules, ◌≡◌, ◌≤◌, [], IfOk, IfErr, ℕ, ◌+◌, ◌-◌, ◌*◌, ◌<◌, length, ◌/◌, ◌%◌, Bool, true, false, nat_eq, nat_lt, List, ◌∷◌, ◌++◌, slice_index_or, slice_set, bit_and, bit_or, Fits, w8, w32, w64, Bor, MutBor}
+use Rattle.heap_store.specs.Jobs.{IsJob}
+use Rattle.bank_queue.specs.Queue.{IsReadyEvent}
+use Rattle.version_book.specs.Book.{IsOwn}
+use Rattle.version_book.specs.Running.{Worked, Balked, Stopped, Outdone, MadeQueue, ReadyNow}
+use Rattle.version_book.proofs.event_work.work.Goals as goal
+
+-- src/event_work.rt:73:1
+pub returns-in-Ok-make_result-clause-ok : goal.returns-in-Ok-make_result-clause-ok
+returns-in-Ok-make_result-clause-ok g c = ?
+
+-- src/event_work.rt:73:1
+pub returns-in-Err-make_result-clause-err : goal.returns-in-Err-make_result-clause-err
+returns-in-Err-make_result-clause-err g c = ?
