@@ -1,25 +1,21 @@
 -- The first cell of a front that is known, and what comes after it.
-use Rattle.std.proofs.Common.{◌≡◌, ℕ, zero, suc, ◌+◌, ◌-◌, ◌<◌, ◌≤◌, eqb, ltb, leb, refl, sym, ap, ◌∙◌, arith, ⊎_elim, Bool, true, false, cond, not, ◌⊎◌, ◌&&◌, ◌||◌, Option, Some, None, List, [], ◌∷◌, length}
-use Rattle.std.specs.Prelude.{option_and_then}
+use Rattle.std.proofs.Common.{◌≡◌, ℕ, suc, ◌-◌, ◌<◌, ◌≤◌, eqb, ltb, refl, sym, ◌∙◌, arith, ⊎_elim, Bool, true, false, cond, ◌⊎◌, ◌&&◌, Option, Some, None, ◌∷◌}
 use Rattle.std.proofs.lemmas.Bool.{true≢false, and_parts, or_cases, or_left, or_right, eqb-true, ltb-true, leb-true, ne_eqb, cond-false, cases_eq, cases_Bool, eq-eqb, and_from}
 use Rattle.lazy_rec.specs.declared.places.Ref.{Ref}
 use Rattle.lazy_rec.specs.declared.records.Rec.{Rec}
-use Rattle.lazy_rec.specs.declared.records.Rec.TheVariants.{Nil, Cons, LNil, LCons, BankRot}
-use Rattle.lazy_rec.specs.declared.records.Sort.{Sort}
+use Rattle.lazy_rec.specs.declared.records.Rec.TheVariants.{Nil, Cons, BankRot}
 use Rattle.lazy_rec.specs.declared.records.Sort.TheVariants as sorts
-use Rattle.lazy_rec.specs.Named.{Records, sort_of, same_sort, at_record, is_pending}
+use Rattle.lazy_rec.specs.Named.{Records}
 use Rattle.lazy_rec.specs.Meaning.{an_item, cells}
-use Rattle.lazy_rec.specs.Packed.{in_range}
 use Rattle.heap_store.specs.World.{World, recs, holds, done_at, is_value, value_at, same_place}
 use Rattle.heap_store.specs.Growth.{Grows}
-use Rattle.heap_store.specs.Completion.{plain_of, is_plain, same_bool, is_cell, on_cell, first_cell, is_bank_rotation, next_bank_rotation}
-use Rattle.heap_store.specs.Lawful.{IsLawful, IsDoneWell, has_items, is_any_bank_rotation, is_bank_rotation_of, height}
-use Rattle.heap_store.proofs.NameLaws.{IsPublished, IsNamedWell}
+use Rattle.heap_store.specs.Completion.{is_plain, same_bool, is_cell, on_cell, first_cell, is_bank_rotation, next_bank_rotation}
+use Rattle.heap_store.specs.Lawful.{IsLawful, has_items, is_any_bank_rotation, is_bank_rotation_of, height}
+use Rattle.heap_store.proofs.NameLaws.{IsNamedWell}
 use Rattle.heap_store.proofs.GrowthLaws.{at_true, value_up}
-use Rattle.heap_store.proofs.ShowLaws.{one_value}
 use Rattle.heap_store.proofs.LawfulLaws.{lawful_names, done_there}
-use Rattle.bank_queue.specs.Front.{is_front, is_cell_or_end}
-use Rattle.bank_queue.proofs.Fronts.{test_at, holds_from, front_there, front_value, plain_is, known_done, done_place, value_done, value_self, value_waits, cons_cells, first_item, rotation_waits}
+use Rattle.bank_queue.specs.Front.{is_front}
+use Rattle.bank_queue.proofs.Fronts.{test_at, holds_from, front_there, front_value, plain_is, known_done, value_done, value_self, value_waits, cons_cells, first_item, rotation_waits}
 use Rattle.bank_queue.proofs.Heights.{cell_height}
 
 -- ---- a cell's numbers fit

@@ -1,7 +1,7 @@
 -- What a lawful world says of fronts and rears.
-use Rattle.std.proofs.Common.{◌≡◌, ℕ, zero, suc, ◌+◌, ◌-◌, ◌<◌, ◌≤◌, eqb, refl, sym, ap, ◌∙◌, arith, ⊎_elim, Bool, true, false, cond, not, ◌⊎◌, ◌&&◌, ◌||◌, Option, Some, None, List, [], ◌∷◌, length}
+use Rattle.std.proofs.Common.{◌≡◌, ℕ, ◌<◌, refl, sym, ap, ◌∙◌, arith, ⊎_elim, Bool, true, false, not, ◌⊎◌, ◌&&◌, Option, Some, None, ◌∷◌, length}
 use Rattle.std.specs.Prelude.{option_and_then, option_map}
-use Rattle.std.specs.List.{AllByRecursion, list_all}
+use Rattle.std.specs.List.{list_all}
 use Rattle.std.proofs.lemmas.Bool.{true≢false, and_parts, or_cases, or_left, or_right}
 use Rattle.lazy_rec.specs.declared.places.Ref.{Ref}
 use Rattle.lazy_rec.specs.declared.records.Rec.{Rec}
@@ -9,19 +9,19 @@ use Rattle.lazy_rec.specs.declared.records.Rec.TheVariants.{Nil, Cons, LNil, LCo
 use Rattle.lazy_rec.specs.declared.states.SuspState.{SuspState}
 use Rattle.lazy_rec.specs.declared.states.SuspState.TheVariants.{Unforced, Claimed, Done}
 use Rattle.lazy_rec.specs.declared.records.Sort.TheVariants as sorts
-use Rattle.lazy_rec.specs.Named.{Records, NamedPlace, named, sort_of, same_sort, at_record, is_pending}
+use Rattle.lazy_rec.specs.Named.{Records, sort_of, same_sort, at_record, is_pending}
 use Rattle.lazy_rec.specs.States.{kept}
 use Rattle.lazy_rec.specs.Tests.{is_some_and}
 use Rattle.lazy_rec.specs.ByPlace.{below, by_place}
-use Rattle.lazy_rec.specs.Meaning.{Entry, an_item, a_child, entry, cells, cells_of}
+use Rattle.lazy_rec.specs.Meaning.{entry, cells}
 use Rattle.heap_store.specs.declared.nodes.Node.{Node}
-use Rattle.heap_store.specs.World.{World, recs, holds, node_at, state_at, done_at, is_done, is_value, value_of, value_at}
+use Rattle.heap_store.specs.World.{World, recs, holds, node_at, state_at, done_at, is_done, is_value, value_at}
 use Rattle.heap_store.specs.Growth.{Grows}
 use Rattle.heap_store.specs.Completion.{plain_of, is_plain}
-use Rattle.heap_store.specs.Lawful.{IsLawful, IsDoneWell, is_item, has_items, is_any_bank_rotation}
-use Rattle.heap_store.proofs.NameLaws.{IsPublished, NamesWell, LooksAtNamed}
+use Rattle.heap_store.specs.Lawful.{IsLawful, is_item, has_items, is_any_bank_rotation}
+use Rattle.heap_store.proofs.NameLaws.{IsPublished, LooksAtNamed}
 use Rattle.heap_store.proofs.LawfulLaws.{lawful_names}
-use Rattle.heap_store.proofs.GrowthLaws.{at_true, done_grows, value_up}
+use Rattle.heap_store.proofs.GrowthLaws.{at_true, done_grows}
 use Rattle.heap_store.proofs.MeaningLaws.{by_record_is, cells_is, cells_kept}
 use Rattle.bank_queue.specs.Front.{is_front, is_cell_or_end, is_list}
 

@@ -1,5 +1,5 @@
 -- Heights of places, and how long a list can be.
-use Rattle.std.proofs.Common.{◌≡◌, ℕ, zero, suc, ◌+◌, ◌<◌, ◌≤◌, eqb, ltb, refl, sym, ap, ◌∙◌, arith, max, Bool, true, false, cond, Some, List, [], ◌∷◌, length, map}
+use Rattle.std.proofs.Common.{◌≡◌, ℕ, ◌<◌, ◌≤◌, eqb, ltb, refl, sym, ap, ◌∙◌, arith, max, Bool, true, false, cond, Some, List, [], ◌∷◌, length, map}
 use Rattle.std.specs.Prelude.{fold}
 use Rattle.std.specs.List.{AllByRecursion}
 use Rattle.std.proofs.lemmas.Bool.{true≢false, eqb-true, ltb-true}
@@ -8,11 +8,11 @@ use Rattle.lazy_rec.specs.declared.records.Rec.{Rec}
 use Rattle.lazy_rec.specs.declared.records.Rec.TheVariants.{Nil, Cons, LNil, LCons, BankRot}
 use Rattle.lazy_rec.specs.declared.records.Sort.TheVariants as sorts
 use Rattle.lazy_rec.specs.ByPlace.{below, by_place}
-use Rattle.lazy_rec.specs.Named.{Records, NamedPlace, named, sort_of, same_sort, at_record}
-use Rattle.lazy_rec.specs.Meaning.{cells, entry}
+use Rattle.lazy_rec.specs.Named.{NamedPlace, named, same_sort, at_record}
+use Rattle.lazy_rec.specs.Meaning.{cells}
 use Rattle.lazy_rec.specs.Units.{family_of}
 use Rattle.heap_store.specs.World.{World, recs}
-use Rattle.heap_store.specs.Lawful.{IsLawful, has_origin, greatest, may_wait, height_of, height}
+use Rattle.heap_store.specs.Lawful.{IsLawful, greatest, may_wait, height_of, height}
 use Rattle.heap_store.proofs.ByPlaceLaws.{below_low, from_lower}
 use Rattle.heap_store.proofs.NameLaws.{IsPublished, IsNamedWell}
 use Rattle.heap_store.proofs.Alls.{All-map}

@@ -1,50 +1,44 @@
 -- What the operations of a banker's queue find, and what they make.
-use Rattle.std.proofs.Common.{◌≡◌, ℕ, zero, suc, ◌+◌, ◌-◌, ◌*◌, ◌<◌, ◌≤◌, eqb, ltb, leb, refl, sym, ap, ◌∙◌, arith, ⊎_elim, subst, Bool, true, false, cond, not, ◌⊎◌, ◌&&◌, ◌||◌, Option, Some, None, List, [], ◌∷◌, ◌++◌, length, drop, reverse}
-use Rattle.std.specs.Prelude.{slice_get}
-use Rattle.std.specs.List.{list_any}
+use Rattle.std.proofs.Common.{◌≡◌, ℕ, zero, suc, ◌+◌, ◌-◌, ◌<◌, ◌≤◌, eqb, leb, refl, sym, ap, ◌∙◌, arith, subst, Bool, true, false, cond, not, ◌&&◌, ◌||◌, Some, None, List, [], ◌∷◌, ◌++◌, length}
 use Rattle.std.proofs.lemmas.List.{length-append, nil_from_length}
-use Rattle.std.proofs.lemmas.Bool.{true≢false, and_parts, and_from, or_cases, or_left, or_right, eqb-true, ltb-true, leb-true, eq-eqb, lt-ltb, le-leb, lt-leb, ne_eqb, cond-true, cond-false, cases_Bool}
+use Rattle.std.proofs.lemmas.Bool.{true≢false, and_parts, and_from, or_left, eqb-true, ltb-true, eq-eqb, lt-ltb, le-leb, lt-leb, ne_eqb, cond-true, cond-false}
 use Rattle.lazy_rec.specs.declared.places.Ref.{Ref}
 use Rattle.lazy_rec.specs.declared.records.Rec.{Rec}
-use Rattle.lazy_rec.specs.declared.records.Rec.TheVariants.{Nil, Cons, LNil, LCons, BankTop, BankRot}
+use Rattle.lazy_rec.specs.declared.records.Rec.TheVariants.{Cons, LCons, BankTop, BankRot}
 use Rattle.lazy_rec.specs.declared.records.Sort.TheVariants as sorts
-use Rattle.lazy_rec.specs.declared.events.Kind.{Kind}
 use Rattle.lazy_rec.specs.declared.events.Kind.TheVariants as kinds
 use Rattle.lazy_rec.specs.declared.events.Op.{Op}
 use Rattle.lazy_rec.specs.declared.events.Op.TheVariants as ops
 use Rattle.lazy_rec.specs.declared.events.Reply.{Reply}
 use Rattle.lazy_rec.specs.declared.events.Reply.TheVariants as replies
-use Rattle.lazy_rec.specs.Named.{Records, sort_of, sort_number, same_sort, at_record, is_pending}
+use Rattle.lazy_rec.specs.Named.{sort_of, same_sort, is_pending}
 use Rattle.lazy_rec.specs.Kinds.{belongs}
 use Rattle.lazy_rec.specs.Plain.{effect, most_items}
 use Rattle.lazy_rec.specs.Due.{direct, may_force}
-use Rattle.lazy_rec.specs.Meaning.{Entry, an_item, cells, means}
+use Rattle.lazy_rec.specs.Meaning.{an_item, cells, means}
 use Rattle.heap_store.specs.declared.jobs.EventJob.{EventJob}
 use Rattle.heap_store.specs.declared.jobs.After.{After}
 use Rattle.heap_store.specs.declared.jobs.After.TheVariants.{End}
 use Rattle.heap_store.specs.World.{World, recs, holds, Keeps, done_at, is_value, value_at}
 use Rattle.heap_store.specs.Growth.{Grows}
 use Rattle.heap_store.specs.Legal.{in_order}
-use Rattle.heap_store.specs.Lawful.{IsLawful, has_items, is_any_bank_rotation, is_root, is_rotated}
-use Rattle.heap_store.specs.LookedAt.{looked_at, has_looked}
-use Rattle.heap_store.specs.Hand.{contains, claim_places, without}
-use Rattle.heap_store.specs.Hand.{Hand}
+use Rattle.heap_store.specs.Lawful.{IsLawful, is_any_bank_rotation, is_root}
+use Rattle.heap_store.specs.LookedAt.{has_looked}
+use Rattle.heap_store.specs.Hand.{contains, without}
 use Rattle.heap_store.specs.Span.{Span}
 use Rattle.heap_store.specs.View.{View, About, IsLawfulView, Fits, Quiet}
-use Rattle.heap_store.specs.Jobs.{IsJob, IsWork, IsEventNeed, IsEventBuildable, IsEventBuilt, IsEnd, Filled, may_seek, list_at, outcome}
-use Rattle.heap_store.proofs.NameLaws.{IsPublished, IsNamedWell}
+use Rattle.heap_store.specs.Jobs.{IsJob, IsEventNeed, IsEventBuildable, IsEventBuilt, IsEnd, Filled, may_seek, outcome}
 use Rattle.heap_store.proofs.GrowthLaws.{at_true, grows_trans, is_value_up}
 use Rattle.heap_store.proofs.LawfulLaws.{lawful_names}
-use Rattle.heap_store.proofs.MeaningLaws.{cells_is, cells_kept}
+use Rattle.heap_store.proofs.MeaningLaws.{cells_kept}
 use Rattle.heap_store.proofs.Steps.{SameRows_trans, Quiet_refl, Filled-none, Filled-quiet, without-without}
 use Rattle.bank_queue.specs.declared.queue.Top.{Top}
-use Rattle.bank_queue.specs.Front.{is_front, is_list}
 use Rattle.bank_queue.specs.Queue.{top_record, items_in, top_places, places_for, looks_at_front, is_ready_top, ends_at, IsReadyEvent, IsNearQueue}
-use Rattle.bank_queue.proofs.Fronts.{test_at, rec_back, front_there, list_cells}
-use Rattle.bank_queue.proofs.Cells.{FirstCell, front_first, value_back}
+use Rattle.bank_queue.proofs.Fronts.{test_at, rec_back, list_cells}
+use Rattle.bank_queue.proofs.Cells.{front_first, value_back}
 use Rattle.bank_queue.proofs.Puts.{place_fits, fits_lcons}
 use Rattle.bank_queue.proofs.Queues.{OldTop, old_top, top_means, rotated_of, rotated_after, kept_queue}
-use Rattle.bank_queue.proofs.Entries.{items, queued, queued-length, queued-snoc}
+use Rattle.bank_queue.proofs.Entries.{queued, queued-length, queued-snoc}
 
 -- ---- runs filled one after another
 

@@ -1,25 +1,23 @@
 -- What a put asks of the records of a banker's queue.
-use Rattle.std.proofs.Common.{◌≡◌, ℕ, zero, suc, ◌+◌, ◌-◌, ◌*◌, ◌<◌, ◌≤◌, eqb, ltb, leb, refl, sym, ap, ◌∙◌, arith, ⊎_elim, Bool, true, false, cond, not, ◌⊎◌, ◌&&◌, ◌||◌, Option, Some, None, List, [], ◌∷◌, length}
+use Rattle.std.proofs.Common.{◌≡◌, ℕ, suc, ◌+◌, ◌-◌, ◌<◌, ◌≤◌, eqb, ltb, refl, sym, ap, ◌∙◌, arith, ⊎_elim, Bool, true, false, cond, ◌&&◌, ◌||◌, Some, None, List, [], ◌∷◌, length}
 use Rattle.std.specs.Prelude.{option_map}
-use Rattle.std.specs.List.{list_all}
 use Rattle.std.proofs.lemmas.List.{get_or-set_other}
-use Rattle.std.proofs.lemmas.Bool.{true≢false, and_parts, and_from, or_cases, or_left, or_right, eqb-true, ltb-true, eq-eqb, lt-ltb, le-leb, ne_eqb, cond-false, cases_eq}
+use Rattle.std.proofs.lemmas.Bool.{true≢false, and_parts, and_from, or_cases, or_left, or_right, eqb-true, ltb-true, eq-eqb, lt-ltb, ne_eqb, cond-false, cases_eq}
 use Rattle.lazy_rec.specs.declared.places.Ref.{Ref}
 use Rattle.lazy_rec.specs.declared.records.Rec.{Rec}
-use Rattle.lazy_rec.specs.declared.records.Rec.TheVariants.{Nil, Cons, LNil, LCons, BankTop, BankRot}
+use Rattle.lazy_rec.specs.declared.records.Rec.TheVariants.{Cons, LCons, BankRot}
 use Rattle.lazy_rec.specs.declared.records.Sort.{Sort}
 use Rattle.lazy_rec.specs.declared.records.Sort.TheVariants as sorts
 use Rattle.lazy_rec.specs.declared.states.SuspState.TheVariants.{Unforced}
-use Rattle.lazy_rec.specs.Named.{Records, NamedPlace, sort_of, sort_number, same_sort, at_record, is_pending}
+use Rattle.lazy_rec.specs.Named.{Records, NamedPlace, sort_of, sort_number, same_sort, at_record}
 use Rattle.lazy_rec.specs.Meaning.{cells}
 use Rattle.lazy_rec.specs.Packed.{in_range}
-use Rattle.lazy_rec.specs.Units.{family_of}
 use Rattle.heap_store.specs.declared.nodes.Node.{Node}
 use Rattle.heap_store.specs.declared.claims.HeldClaim.{HeldClaim}
 use Rattle.heap_store.specs.World.{World, recs, holds, is_published, show, Keeps, value_at, same_place}
 use Rattle.heap_store.specs.Completion.{is_plain, on_cell, is_bank_rotation, next_bank_rotation, is_next}
-use Rattle.heap_store.specs.Lawful.{IsLawful, HasLaws, is_named_well, has_items, is_any_bank_rotation, height, has_origin}
-use Rattle.heap_store.specs.Hand.{contains, newest_makes, fresh_claim}
+use Rattle.heap_store.specs.Lawful.{IsLawful, HasLaws, is_named_well, has_items, is_any_bank_rotation, height}
+use Rattle.heap_store.specs.Hand.{contains, newest_makes}
 use Rattle.heap_store.specs.View.{View, IsLawfulView, Fits}
 use Rattle.heap_store.specs.Jobs.{IsNewest}
 use Rattle.heap_store.proofs.NameLaws.{IsPublished, IsNamedWell}
@@ -32,7 +30,7 @@ use Rattle.bank_queue.specs.Front.{is_front, is_list}
 use Rattle.bank_queue.specs.Queue.{IsRotatable}
 use Rattle.bank_queue.proofs.Fronts.{front_there, front_sort}
 use Rattle.bank_queue.proofs.Heights.{height_most, list_length}
-use Rattle.bank_queue.proofs.Cells.{FirstCell, front_first}
+use Rattle.bank_queue.proofs.Cells.{front_first}
 
 -- ---- places in hand
 

@@ -1,20 +1,18 @@
 -- Tops of banker's queues.
-use Rattle.std.proofs.Common.{◌≡◌, ℕ, zero, suc, ◌+◌, ◌-◌, ◌*◌, ◌<◌, ◌≤◌, eqb, ltb, leb, refl, sym, ap, ◌∙◌, arith, ⊎_elim, subst, Bool, true, false, cond, not, ◌⊎◌, ◌&&◌, ◌||◌, Option, Some, None, List, [], ◌∷◌, ◌++◌, length, take, drop, reverse}
-use Rattle.std.specs.Prelude.{flat_map}
-use Rattle.std.specs.List.{list_all}
+use Rattle.std.proofs.Common.{◌≡◌, ℕ, zero, suc, ◌+◌, ◌-◌, ◌*◌, ◌<◌, ◌≤◌, eqb, ltb, leb, refl, sym, ap, ◌∙◌, arith, ⊎_elim, subst, Bool, true, false, cond, ◌&&◌, ◌||◌, Some, [], ◌++◌, length, take, drop, reverse}
 use Rattle.std.proofs.lemmas.List.{append-nil, take_all, length-append, length-reverse}
-use Rattle.std.proofs.lemmas.Bool.{true≢false, and_parts, and_from, or_cases, or_left, or_right, eqb-true, ltb-true, leb-true, eq-eqb, lt-ltb, le-leb, lt-leb, ne_eqb, cond-true, cond-false, cases_eq, cases_lt, cases_Bool}
+use Rattle.std.proofs.lemmas.Bool.{true≢false, and_parts, and_from, or_cases, or_left, or_right, eqb-true, ltb-true, leb-true, eq-eqb, lt-ltb, le-leb, lt-leb, cond-true, cond-false, cases_eq, cases_lt}
 use Rattle.lazy_rec.specs.declared.places.Ref.{Ref}
 use Rattle.lazy_rec.specs.declared.records.Rec.{Rec}
-use Rattle.lazy_rec.specs.declared.records.Rec.TheVariants.{Nil, Cons, LNil, LCons, BankTop, BankRot}
+use Rattle.lazy_rec.specs.declared.records.Rec.TheVariants.{Nil, Cons, LNil, BankTop, BankRot}
 use Rattle.lazy_rec.specs.declared.records.Sort.TheVariants as sorts
 use Rattle.lazy_rec.specs.declared.states.SuspState.TheVariants.{Unforced}
-use Rattle.lazy_rec.specs.Named.{Records, NamedPlace, sort_of, same_sort, at_record, is_pending}
-use Rattle.lazy_rec.specs.Meaning.{Entry, an_item, items_of, cells, means}
+use Rattle.lazy_rec.specs.Named.{Records, sort_of}
+use Rattle.lazy_rec.specs.Meaning.{an_item, cells, means}
 use Rattle.lazy_rec.specs.Packed.{in_range}
-use Rattle.heap_store.specs.World.{World, recs, holds, show, Keeps, value_at}
+use Rattle.heap_store.specs.World.{World, recs, holds, show, Keeps}
 use Rattle.heap_store.specs.Completion.{is_plain}
-use Rattle.heap_store.specs.Lawful.{IsLawful, HasLaws, is_named_well, has_items, is_any_bank_rotation, bank_front_of, is_bank_front, is_bank_origin, is_bank_rotation_of, same_entries, is_rotated, is_bank_queue}
+use Rattle.heap_store.specs.Lawful.{IsLawful, is_named_well, has_items, is_any_bank_rotation, bank_front_of, is_bank_front, is_bank_origin, is_bank_rotation_of, same_entries, is_rotated, is_bank_queue}
 use Rattle.heap_store.specs.Hand.{contains}
 use Rattle.heap_store.specs.View.{View, IsLawfulView, Fits}
 use Rattle.heap_store.proofs.NameLaws.{IsPublished, IsNamedWell, LooksAtNamed}
@@ -24,14 +22,14 @@ use Rattle.heap_store.proofs.LawfulLaws.{lawful_names}
 use Rattle.heap_store.proofs.MeaningLaws.{by_record_is, by_record_kept, cells_is, cells_kept, means_is}
 use Rattle.heap_store.proofs.MadeLaws.{plain_kept}
 use Rattle.bank_queue.specs.declared.queue.Top.{Top}
-use Rattle.bank_queue.specs.Front.{is_front, is_cell_or_end, is_list}
-use Rattle.bank_queue.specs.Queue.{top_record, items_in, top_places, IsNearQueue, IsRotatable}
-use Rattle.bank_queue.proofs.Fronts.{test_at, front_there, front_sort, plain_is, plain_there, plain_value, cons_cells}
+use Rattle.bank_queue.specs.Front.{is_front, is_list}
+use Rattle.bank_queue.specs.Queue.{top_record, items_in, top_places, IsRotatable}
+use Rattle.bank_queue.proofs.Fronts.{test_at, front_there, front_sort, plain_is, plain_value, cons_cells}
 use Rattle.bank_queue.proofs.Heights.{list_length}
-use Rattle.bank_queue.proofs.Cells.{FirstCell, front_first, rotation_front}
-use Rattle.bank_queue.proofs.Puts.{put_keeps, place_fits, name_well, front_up, RotationWell, rotation_well, rotation_most, fits_first}
+use Rattle.bank_queue.proofs.Cells.{FirstCell, rotation_front}
+use Rattle.bank_queue.proofs.Puts.{put_keeps, place_fits, name_well, rotation_well, rotation_most}
 use Rattle.bank_queue.proofs.Reversals.{nil_there, list_nil_there, nil_plain}
-use Rattle.bank_queue.proofs.Entries.{items, items-append, items-reverse, items_means, queued, queued-items, queued-length, entries_agree, entries_same, drop_next}
+use Rattle.bank_queue.proofs.Entries.{items, items_means, queued, queued-items, entries_agree, entries_same, drop_next}
 
 -- ---- fronts reach only cells and rotations
 

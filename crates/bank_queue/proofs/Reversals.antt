@@ -1,5 +1,5 @@
 -- A loop that publishes a rear's cells in reverse.
-use Rattle.std.proofs.Common.{◌≡◌, ℕ, zero, suc, ◌+◌, ◌-◌, ◌<◌, ◌≤◌, eqb, ltb, leb, refl, sym, ap, ◌∙◌, arith, Bool, true, false, cond, not, ◌&&◌, ◌||◌, Option, Some, None, List, [], ◌∷◌, ◌++◌, length, take, reverse}
+use Rattle.std.proofs.Common.{◌≡◌, ℕ, suc, ◌+◌, ◌<◌, ltb, refl, sym, ap, ◌∙◌, arith, true, false, not, ◌&&◌, Some, List, [], ◌∷◌, ◌++◌, length, reverse}
 use Rattle.std.specs.Prelude.{flat_map}
 use Rattle.std.proofs.lemmas.List.{append_assoc, reverse-append, append-nil, nil_from_length}
 use Rattle.std.proofs.lemmas.Bool.{true≢false, and_parts, le-leb, ltb-true}
@@ -7,16 +7,14 @@ use Rattle.lazy_rec.specs.declared.places.Ref.{Ref}
 use Rattle.lazy_rec.specs.declared.records.Rec.{Rec}
 use Rattle.lazy_rec.specs.declared.records.Rec.TheVariants.{Nil, Cons, LNil, LCons, BankRot}
 use Rattle.lazy_rec.specs.declared.records.Sort.TheVariants as sorts
-use Rattle.lazy_rec.specs.Named.{Records, sort_of, same_sort, is_pending, at_record}
+use Rattle.lazy_rec.specs.Named.{Records, sort_of, same_sort, is_pending}
 use Rattle.lazy_rec.specs.Meaning.{Entry, an_item, items_of, cells, means_of}
 use Rattle.heap_store.specs.World.{World, recs, holds}
 use Rattle.heap_store.specs.Completion.{is_plain, is_nil, is_list_nil, is_no_tree}
-use Rattle.heap_store.specs.Lawful.{IsLawful, has_fixed, is_tree_nil, is_cat_nil, has_items, height}
-use Rattle.heap_store.specs.Hand.{contains}
+use Rattle.heap_store.specs.Lawful.{IsLawful, is_tree_nil, is_cat_nil, has_items, height}
 use Rattle.heap_store.specs.Span.{Span}
 use Rattle.heap_store.specs.View.{View, IsLawfulView, Put, Quiet, Fits, MayComplete}
 use Rattle.heap_store.specs.Jobs.{IsBuildable, IsBuilt}
-use Rattle.heap_store.proofs.NameLaws.{IsPublished}
 use Rattle.heap_store.proofs.GrowthLaws.{at_true, grows_trans}
 use Rattle.heap_store.proofs.ShowLaws.{one_value}
 use Rattle.heap_store.proofs.LawfulLaws.{lawful_names}
@@ -25,11 +23,10 @@ use Rattle.heap_store.proofs.MadeLaws.{plain_kept}
 use Rattle.heap_store.proofs.RecordLaws.{height_kept}
 use Rattle.heap_store.proofs.Steps.{IsFilling, filling_start, filling_quiet, filling_put}
 use Rattle.bank_queue.specs.Front.{is_cell_or_end, is_list}
-use Rattle.bank_queue.proofs.Fronts.{test_at, rec_back, plain_there, plain_value, plain_is, list_cells, first_item}
-use Rattle.bank_queue.proofs.Heights.{nil_height, cell_height, list_length}
-use Rattle.bank_queue.proofs.Cells.{cell_fits, CellFits}
-use Rattle.bank_queue.proofs.Puts.{RotationWell, rotation_well, rotation_most, place_fits, fits_cons}
-use Rattle.bank_queue.proofs.Rotations.{Given, given_last, same_means}
+use Rattle.bank_queue.proofs.Fronts.{rec_back, plain_there, plain_value, plain_is, list_cells, first_item}
+use Rattle.bank_queue.proofs.Heights.{nil_height, cell_height}
+use Rattle.bank_queue.proofs.Puts.{rotation_well, rotation_most, place_fits, fits_cons}
+use Rattle.bank_queue.proofs.Rotations.{given_last, same_means}
 
 -- ---- the fixed ends
 

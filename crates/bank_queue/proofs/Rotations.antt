@@ -1,31 +1,29 @@
 -- What a rotation needs, and what it makes.
-use Rattle.std.proofs.Common.{◌≡◌, ℕ, zero, suc, ◌+◌, ◌-◌, ◌*◌, ◌<◌, ◌≤◌, eqb, ltb, leb, refl, sym, ap, ◌∙◌, arith, Bool, true, false, cond, not, ◌&&◌, ◌||◌, Option, Some, None, List, [], ◌∷◌, ◌++◌, length, take, reverse}
+use Rattle.std.proofs.Common.{◌≡◌, ℕ, zero, suc, ◌+◌, ◌-◌, ◌<◌, ◌≤◌, eqb, refl, sym, ap, ◌∙◌, arith, Bool, true, false, cond, ◌&&◌, Some, None, List, [], ◌∷◌, ◌++◌, take, reverse}
 use Rattle.std.specs.Prelude.{flat_map}
-use Rattle.std.specs.List.{list_all, list_any}
+use Rattle.std.specs.List.{list_all}
 use Rattle.std.proofs.lemmas.Bool.{true≢false, and_parts, and_from, eq-eqb, le-leb, ne_eqb, cond-false, or_left}
 use Rattle.lazy_rec.specs.declared.places.Ref.{Ref}
 use Rattle.lazy_rec.specs.declared.records.Rec.{Rec}
-use Rattle.lazy_rec.specs.declared.records.Rec.TheVariants.{Nil, Cons, LNil, LCons, BankRot}
-use Rattle.lazy_rec.specs.Named.{sort_of, is_pending, at_record}
-use Rattle.lazy_rec.specs.Meaning.{Entry, an_item, items_of, cells, cells_of, means, means_of}
+use Rattle.lazy_rec.specs.declared.records.Rec.TheVariants.{Cons, BankRot}
+use Rattle.lazy_rec.specs.Named.{is_pending}
+use Rattle.lazy_rec.specs.Meaning.{Entry, an_item, items_of, cells, means, means_of}
 use Rattle.lazy_rec.specs.Units.{steps, family_of}
 use Rattle.heap_store.specs.declared.jobs.Cursor.{Cursor}
-use Rattle.heap_store.specs.World.{World, recs, holds, done_at, is_value, value_at, value_of}
+use Rattle.heap_store.specs.World.{World, recs, holds, done_at, is_value, value_at}
 use Rattle.heap_store.specs.Growth.{Grows}
-use Rattle.heap_store.specs.Completion.{on_cell, is_cell, is_made, next_bank_rotation, same_bool}
-use Rattle.heap_store.specs.Lawful.{IsLawful, IsDoneWell, is_any_bank_rotation, needs, height}
+use Rattle.heap_store.specs.Completion.{next_bank_rotation, same_bool}
+use Rattle.heap_store.specs.Lawful.{IsLawful, is_any_bank_rotation, needs, height}
 use Rattle.heap_store.specs.Span.{Span}
 use Rattle.heap_store.specs.View.{View, Quiet, MayComplete}
-use Rattle.heap_store.specs.Jobs.{IsReady, IsNeed, IsWork, IsBuildable, IsBuilt, exact_places, cursor_fits}
+use Rattle.heap_store.specs.Jobs.{IsReady, IsNeed, IsBuildable, IsBuilt, exact_places, cursor_fits}
 use Rattle.heap_store.proofs.GrowthLaws.{at_true, grows_trans, is_value_up}
 use Rattle.heap_store.proofs.Steps.{quiet_Filled}
 use Rattle.heap_store.proofs.ShowLaws.{one_value}
 use Rattle.heap_store.proofs.LawfulLaws.{lawful_names}
-use Rattle.heap_store.proofs.MeaningLaws.{cells_is, means_is, cells_kept}
-use Rattle.bank_queue.specs.Front.{is_front}
-use Rattle.bank_queue.proofs.Fronts.{test_at, rec_back, front_there}
+use Rattle.heap_store.proofs.MeaningLaws.{cells_is, means_is}
 use Rattle.bank_queue.proofs.Heights.{rotation_height, cell_height}
-use Rattle.bank_queue.proofs.Cells.{FirstCell, front_first, value_back, known_value}
+use Rattle.bank_queue.proofs.Cells.{front_first, value_back}
 use Rattle.bank_queue.proofs.Puts.{RotationWell, rotation_well, same_rotation}
 
 -- ---- what is ready

@@ -1,6 +1,5 @@
 -- What the operations of a banker's queue need and take, and what makes a queue.
 use Rattle.std.specs.Prelude.{◌≡◌, ℕ, zero, suc, ◌+◌, ◌<◌, ◌≤◌, eqb, ltb, leb, Bool, true, false, cond, ◌&&◌, ◌||◌, not, List, [], length, flat_map}
-use Rattle.lazy_rec.specs.declared.places.Ref.{Ref}
 use Rattle.lazy_rec.specs.declared.records.Rec.{Rec}
 use Rattle.lazy_rec.specs.declared.records.Rec.TheVariants.{BankTop}
 use Rattle.lazy_rec.specs.declared.events.Op.{Op}
@@ -73,6 +72,11 @@ pub record IsNearQueue (w : World) (t : Top) (place : ℕ) : Type 0 where
   pub rear_low : t.rear.0 < place
   pub near : t.lenr ≤ t.lenf + 1
   pub rotated : t.lenr ≤ t.lenf → (t.rotated ≡ true) × (t.origin.0 < place) × (is_rotated (recs w) t.front.0 t.lenf t.origin.0 t.n t.tails ≡ true)
+
+-- the event has ended: no operation of a queue has a second stage
+abbrev pub is_end : After → Bool
+is_end (End _ _ _) = true
+is_end (Next _) = false
 
 -- the event ended at this root
 abbrev pub ends_at : After → ℕ → Bool

@@ -4,7 +4,7 @@ ghost use Rattle.heap_store.specs.World.{recs};
 ghost use Rattle.heap_store.specs.Lawful.{is_any_bank_rotation};
 ghost use Rattle.heap_store.specs.View.{Quiet};
 ghost use Rattle.heap_store.specs.Jobs.{IsJob, EventPrepared, IsEventBuildable, IsEventBuilt};
-ghost use Rattle.bank_queue.specs.Queue.{top_record, places_for, looks_at_front, ends_at, IsReadyEvent};
+ghost use Rattle.bank_queue.specs.Queue.{top_record, places_for, looks_at_front, ends_at, is_end, IsReadyEvent};
 
 use crate::front::{first_cell, is_known};
 use crate::queue::{Top, put_top, read_top};
@@ -43,6 +43,7 @@ pub fn build_event<H: Heap>(h: &mut H, job: &EventJob, cursor: &Cursor, run: &mu
     requires build { IsEventBuildable IsReadyEvent (H.view h.old) job.now run.old }
     ensures built { IsEventBuilt (H.view h.old) (H.view h.new) job.now run.old run.new result }
     ensures base { run.old.next ≡ run.old.end → ends_at result job.now.base.root.0 ≡ true }
+    ensures ends { is_end result ≡ true }
 {
     match job.op {
         Op::Snoc => snoc(h, job, run),
@@ -107,6 +108,7 @@ fn snoc<H: Heap>(h: &mut H, job: &EventJob, run: &mut Run) -> After
     requires build { IsEventBuildable IsReadyEvent (H.view h.old) job.now run.old }
     ensures built { IsEventBuilt (H.view h.old) (H.view h.new) job.now run.old run.new result }
     ensures base { run.old.next ≡ run.old.end → ends_at result job.now.base.root.0 ≡ true }
+    ensures ends { is_end result ≡ true }
 {
     if job.base.size == MOST_ITEMS {
         return same(&job.base, Reply::TooLong);
@@ -139,6 +141,7 @@ fn tail<H: Heap>(h: &mut H, job: &EventJob, run: &mut Run) -> After
     requires build { IsEventBuildable IsReadyEvent (H.view h.old) job.now run.old }
     ensures built { IsEventBuilt (H.view h.old) (H.view h.new) job.now run.old run.new result }
     ensures base { run.old.next ≡ run.old.end → ends_at result job.now.base.root.0 ≡ true }
+    ensures ends { is_end result ≡ true }
 {
     let top = read_top(h, job.base.root);
     if top.lenf == 0 {
@@ -165,6 +168,7 @@ fn head<H: Heap>(h: &mut H, job: &EventJob, run: &mut Run) -> After
     requires build { IsEventBuildable IsReadyEvent (H.view h.old) job.now run.old }
     ensures built { IsEventBuilt (H.view h.old) (H.view h.new) job.now run.old run.new result }
     ensures base { run.old.next ≡ run.old.end → ends_at result job.now.base.root.0 ≡ true }
+    ensures ends { is_end result ≡ true }
 {
     let top = read_top(h, job.base.root);
     if top.lenf == 0 {

@@ -1,6 +1,7 @@
-use Rattle.std.proofs.Common.{◌≡◌, refl, sym, ap, ◌∙◌}
+use Rattle.std.proofs.Common.{sym, ap, ◌∙◌}
 use Rattle.lazy_rec.specs.Kinds.{belongs}
 use Rattle.bank_queue.proofs.Operations.{only_size, same_root, size_built}
+use Rattle.bank_queue.specs.Queue.{is_end}
 use Rattle.bank_queue.proofs.events.build_event.Goals as goal
 
 pub returns-in_default : goal.returns-in_default
@@ -9,4 +10,5 @@ returns-in_default g c =
     record {
       built = size_built (g.met.H.Heap.lawful c.args.h.now).world c.requires.build c.requires.kind op c.same.result c.same.ensures;
       base = λ _. same_root _ _ _ c.same.result c.same.ensures;
+      ends = ap is_end c.same.ensures;
     }

@@ -1,8 +1,8 @@
-use Rattle.std.proofs.Common.{◌≡◌, ◌+◌, ◌-◌, ◌<◌, ◌≤◌, ℕ, refl, arith, ap, sym, ◌∙◌, true, false, Some}
+use Rattle.std.proofs.Common.{arith, ap}
 use Rattle.heap_store.proofs.GrowthLaws.{grows_trans, value_up}
 use Rattle.heap_store.proofs.Steps.{Quiet_trans}
-use Rattle.bank_queue.specs.Queue.{looks_at_front}
 use Rattle.bank_queue.proofs.Operations.{BuildTop, build_later, build_root, same_root, none_head, head_built, head_looks}
+use Rattle.bank_queue.specs.Queue.{is_end}
 use Rattle.bank_queue.proofs.events.head.Goals as goal
 use Rattle.bank_queue.proofs.events.head.Goals.{After-read_top-top}
 
@@ -16,6 +16,7 @@ pub returns-then-top-eq0 : goal.returns-then-top-eq0
 returns-then-top-eq0 g c = record {
   built = none_head c.read_top-top.ensures.quiet (g.met.H.Heap.lawful c.read_top-top.new.h).world (top g (goal.at.returns-then-top-eq0 g c).After-read_top-top) c.requires.kind c.requires.op c.if-top-eq0.true c.same.result c.same.ensures;
   base = λ _. same_root _ _ _ c.same.result c.same.ensures;
+  ends = ap is_end c.same.ensures;
 }
 
 pub first_cell-cell-requires : goal.first_cell-cell-requires
@@ -31,4 +32,5 @@ returns g c =
     record {
       built = head_built (Quiet_trans c.read_top-top.ensures.quiet c.first_cell-cell.ensures.quiet) (g.met.H.Heap.lawful c.first_cell-cell.new.h).world k c.requires.kind c.requires.op c.first_cell-cell.result.value c.first_cell-cell.result.rest h (k.known (head_looks c.args.job.now.op c.read_top-top.result.lenf c.requires.op (omega arith))) c.same-2.result c.same-2.ensures;
       base = λ _. same_root _ _ _ c.same-2.result c.same-2.ensures;
+      ends = ap is_end c.same-2.ensures;
     }

@@ -1,5 +1,5 @@
-use Rattle.std.proofs.Common.{◌≡◌, ◌+◌, ◌<◌, ◌≤◌, ℕ, refl, arith, ap, sym, ◌∙◌, true, false, Some, not}
-use Rattle.std.proofs.lemmas.Bool.{true≢false, not-true, not-false}
+use Rattle.std.proofs.Common.{◌≡◌, arith, sym, ◌∙◌, Some}
+use Rattle.std.proofs.lemmas.Bool.{true≢false}
 use Rattle.heap_store.specs.World.{recs}
 use Rattle.heap_store.proofs.Steps.{Quiet_trans}
 use Rattle.bank_queue.specs.Queue.{top_record}

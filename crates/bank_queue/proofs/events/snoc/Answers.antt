@@ -1,10 +1,8 @@
-use Rattle.std.proofs.Common.{◌≡◌, ◌+◌, ◌-◌, ◌<◌, ◌≤◌, ℕ, refl, arith, ap, sym, ◌∙◌, subst, true, false, Some, ◌++◌, reverse, ◌∷◌, suc}
-use Rattle.heap_store.specs.World.{recs}
+use Rattle.std.proofs.Common.{◌≤◌, arith, ◌∙◌, subst, ap, refl}
 use Rattle.heap_store.specs.Jobs.{Filled}
-use Rattle.heap_store.proofs.GrowthLaws.{grows_trans}
 use Rattle.heap_store.proofs.Steps.{IsFilling, filling_start, filling_quiet, filling_put}
-use Rattle.bank_queue.specs.Queue.{top_record}
 use Rattle.bank_queue.proofs.Operations.{BuildTop, build_top, build_root, full_built, same_root, near_snoc, snoc_room, snoc_end, fits_rear, Filled_trans, snoc_items}
+use Rattle.bank_queue.specs.Queue.{is_end}
 use Rattle.bank_queue.proofs.events.snoc.Goals as goal
 use Rattle.bank_queue.proofs.events.snoc.Goals.{After-read_top-top, After-put-rear}
 
@@ -12,6 +10,7 @@ pub returns-then-job-eq-MOST_ITEMS : goal.returns-then-job-eq-MOST_ITEMS
 returns-then-job-eq-MOST_ITEMS g c = record {
   built = full_built (g.met.H.Heap.lawful c.args.h.now).world c.requires.build c.requires.kind c.requires.op c.if-job-eq-MOST_ITEMS.true c.same.result c.same.ensures;
   base = λ _. same_root _ _ _ c.same.result c.same.ensures;
+  ends = ap is_end c.same.ensures;
 }
 
 pub read_top-top-requires : goal.read_top-top-requires
@@ -75,4 +74,5 @@ returns g c =
             (p.items ∙ snoc_items law1 law2 p.filled.grows.records c.args.job.now.base.root.0 c.read_top-top.result here c.args.job.now.arg c.put-rear.result (rw r.place r.put.here));
       };
       base = λ e. absurd (omega (arith, e, room));
+      ends = refl;
     }

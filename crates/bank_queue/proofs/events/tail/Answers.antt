@@ -1,9 +1,8 @@
-use Rattle.std.proofs.Common.{◌≡◌, ◌+◌, ◌-◌, ◌<◌, ◌≤◌, ℕ, refl, arith, ap, sym, ◌∙◌, true, false, Some}
-use Rattle.heap_store.specs.World.{recs}
+use Rattle.std.proofs.Common.{◌-◌, arith, ◌∙◌, ap, refl}
 use Rattle.heap_store.proofs.GrowthLaws.{grows_trans, value_up, is_value_up}
 use Rattle.heap_store.proofs.Steps.{Quiet_trans, quiet_Filled}
-use Rattle.bank_queue.specs.Queue.{top_record, looks_at_front}
 use Rattle.bank_queue.proofs.Operations.{BuildTop, build_later, build_root, same_root, top_least, none_tail, near_tail, tail_room, tail_end, tail_looks, tail_items}
+use Rattle.bank_queue.specs.Queue.{is_end}
 use Rattle.bank_queue.proofs.events.tail.Goals as goal
 use Rattle.bank_queue.proofs.events.tail.Goals.{After-read_top-top, After-first_cell-cell}
 
@@ -17,6 +16,7 @@ pub returns-then-top-eq0 : goal.returns-then-top-eq0
 returns-then-top-eq0 g c = record {
   built = none_tail c.read_top-top.ensures.quiet (g.met.H.Heap.lawful c.read_top-top.new.h).world (top g (goal.at.returns-then-top-eq0 g c).After-read_top-top) c.requires.kind c.requires.op c.if-top-eq0.true c.same.result c.same.ensures;
   base = λ _. same_root _ _ _ c.same.result c.same.ensures;
+  ends = ap is_end c.same.ensures;
 }
 
 pub first_cell-cell-requires : goal.first_cell-cell-requires
@@ -67,4 +67,5 @@ returns g c =
             (p.items ∙ tail_items law1 law2 grows.records c.args.job.now.base.root.0 c.read_top-top.result k.there c.first_cell-cell.result.value c.first_cell-cell.result.rest h);
       };
       base = λ e. absurd (omega (arith, e, room, top_least (c.read_top-top.result.lenf - 1) c.read_top-top.result.lenr));
+      ends = refl;
     }

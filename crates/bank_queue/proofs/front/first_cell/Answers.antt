@@ -1,12 +1,7 @@
-use Rattle.std.proofs.Common.{◌≡◌, ◌<◌, ℕ, length, refl, sym, ap, ◌∙◌, true, false, Some, None}
-use Rattle.std.proofs.lemmas.Bool.{true≢false}
-use Rattle.lazy_rec.specs.States.{kept}
-use Rattle.lazy_rec.specs.declared.records.Rec.TheVariants.{Cons, BankRot}
-use Rattle.heap_store.specs.World.{recs, holds, value_at}
+use Rattle.std.proofs.Common.{refl, ap, ◌∙◌, Some}
 use Rattle.heap_store.proofs.Steps.{Quiet_trans}
 use Rattle.heap_store.proofs.GrowthLaws.{grows_trans}
-use Rattle.bank_queue.specs.Front.{is_cell_or_end}
-use Rattle.bank_queue.proofs.Fronts.{front_there, published, other_record, front_value, DoneFront, done_front, undone, ValueFront, value_front, rec_back, value_self, value_waits, found_done, found_value}
+use Rattle.bank_queue.proofs.Fronts.{front_there, published, DoneFront, done_front, undone, ValueFront, value_front, found_done, found_value}
 use Rattle.bank_queue.proofs.front.first_cell.Goals as goal
 use Rattle.bank_queue.proofs.front.first_cell.Goals.{In-Done, In_default}
 

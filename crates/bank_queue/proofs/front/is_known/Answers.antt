@@ -1,4 +1,4 @@
-use Rattle.std.proofs.Common.{◌≡◌, refl, sym, ap, ◌∙◌, true, false, Some}
+use Rattle.std.proofs.Common.{refl, sym}
 use Rattle.std.proofs.lemmas.Bool.{true≢false}
 use Rattle.bank_queue.proofs.Fronts.{done_of_state, front_value, front_there, published, value_known, done_known, not_done, other_record}
 use Rattle.heap_store.proofs.Steps.{Quiet_trans}

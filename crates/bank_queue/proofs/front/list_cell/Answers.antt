@@ -1,4 +1,4 @@
-use Rattle.std.proofs.Common.{◌≡◌, refl, sym, ap, ◌∙◌, true, false, Some}
+use Rattle.std.proofs.Common.{◌≡◌, ap, ◌∙◌, Some}
 use Rattle.bank_queue.proofs.Fronts.{test_at, test_there, some_list_cell, list_cells, first_item}
 use Rattle.bank_queue.specs.Front.{is_list}
 use Rattle.heap_store.specs.World.{recs}

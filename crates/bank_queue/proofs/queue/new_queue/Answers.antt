@@ -1,4 +1,4 @@
-use Rattle.std.proofs.Common.{◌≡◌, ◌+◌, ◌<◌, ◌≤◌, ℕ, refl, arith, ap, sym, ◌∙◌}
+use Rattle.std.proofs.Common.{◌≡◌, arith}
 use Rattle.heap_store.proofs.Steps.{filling_start, filling_put}
 use Rattle.bank_queue.proofs.Queues.{fits_empty, empty_means}
 use Rattle.bank_queue.proofs.queue.new_queue.Goals as goal

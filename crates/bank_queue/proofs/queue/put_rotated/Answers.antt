@@ -1,9 +1,6 @@
-use Rattle.std.proofs.Common.{◌≡◌, ◌+◌, ◌*◌, ◌<◌, ◌≤◌, ℕ, refl, arith, ap, sym, ◌∙◌, true, false, Some}
-use Rattle.lazy_rec.specs.declared.records.Rec.TheVariants.{BankRot}
-use Rattle.heap_store.specs.World.{recs}
+use Rattle.std.proofs.Common.{◌≡◌, ◌<◌, arith, sym, ◌∙◌, true}
 use Rattle.heap_store.specs.Hand.{contains}
 use Rattle.heap_store.proofs.Steps.{IsFilling, filling_start, filling_put}
-use Rattle.bank_queue.specs.Queue.{items_in}
 use Rattle.bank_queue.proofs.Puts.{fits_first}
 use Rattle.bank_queue.proofs.Queues.{NewFits, new_fits, fits_new, new_means, above_ends}
 use Rattle.bank_queue.proofs.queue.put_rotated.Goals as goal

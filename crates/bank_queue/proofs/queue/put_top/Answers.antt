@@ -1,9 +1,9 @@
-use Rattle.std.proofs.Common.{◌≡◌, ◌+◌, ◌<◌, ◌≤◌, ℕ, refl, arith, ap, sym, ◌∙◌, true, false, Some}
+use Rattle.std.proofs.Common.{◌≡◌, ◌≤◌, arith, ap, ◌∙◌}
 use Rattle.heap_store.specs.World.{recs}
 use Rattle.heap_store.proofs.GrowthLaws.{at_true}
 use Rattle.heap_store.proofs.Steps.{filling_start, filling_put}
 use Rattle.bank_queue.specs.Front.{is_list}
-use Rattle.bank_queue.specs.Queue.{items_in, top_places}
+use Rattle.bank_queue.specs.Queue.{items_in}
 use Rattle.bank_queue.proofs.Fronts.{front_there}
 use Rattle.bank_queue.proofs.Queues.{fits_rotated, top_means, kept_queue, one_place}
 use Rattle.bank_queue.proofs.queue.put_top.Goals as goal

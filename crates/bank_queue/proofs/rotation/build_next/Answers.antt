@@ -1,13 +1,10 @@
-use Rattle.std.proofs.Common.{◌≡◌, ◌+◌, ◌-◌, ◌<◌, ℕ, refl, arith, ap, sym, ◌∙◌, true, false, Some}
-use Rattle.lazy_rec.specs.declared.records.Rec.TheVariants.{Cons, BankRot}
-use Rattle.lazy_rec.specs.declared.records.Sort.TheVariants as sorts
-use Rattle.heap_store.specs.World.{recs, value_at}
-use Rattle.heap_store.specs.Hand.{contains}
-use Rattle.heap_store.proofs.GrowthLaws.{grows_trans, value_up, is_value_up}
+use Rattle.std.proofs.Common.{◌≡◌, ◌+◌, ◌-◌, ◌<◌, refl, arith, sym, ◌∙◌}
+use Rattle.lazy_rec.specs.declared.records.Rec.TheVariants.{BankRot}
+use Rattle.heap_store.proofs.GrowthLaws.{value_up, is_value_up}
 use Rattle.heap_store.proofs.Steps.{IsFilling, filling_start, filling_quiet, filling_put}
-use Rattle.bank_queue.proofs.Puts.{rotation_most, place_fits, fits_next, fits_cons}
+use Rattle.bank_queue.proofs.Puts.{place_fits, fits_next, fits_cons}
 use Rattle.bank_queue.proofs.Cells.{FirstCell, front_first}
-use Rattle.bank_queue.proofs.Rotations.{GivenNext, given_next, done_next}
+use Rattle.bank_queue.proofs.Rotations.{given_next, done_next}
 use Rattle.bank_queue.proofs.rotation.build_next.Goals as goal
 use Rattle.bank_queue.proofs.rotation.build_next.Goals.{After-put-next, After-first_cell-cell}
 

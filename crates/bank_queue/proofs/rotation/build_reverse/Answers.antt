@@ -1,4 +1,4 @@
-use Rattle.std.proofs.Common.{◌≡◌, ◌+◌, ◌-◌, suc, ℕ, arith}
+use Rattle.std.proofs.Common.{◌≡◌, ◌+◌, ◌-◌, suc, arith}
 use Rattle.bank_queue.proofs.Puts.{rotation_well}
 use Rattle.bank_queue.proofs.Reversals.{reversing_start, reversing_turn, reversing_fits, reversing_put, reversing_end}
 use Rattle.bank_queue.proofs.rotation.build_reverse.Goals as goal

@@ -1,4 +1,4 @@
-use Rattle.std.proofs.Common.{◌≡◌, ◌+◌, ℕ, refl, arith, sym, ap, ◌∙◌, Some}
+use Rattle.std.proofs.Common.{◌≡◌, arith, ap, ◌∙◌, Some}
 use Rattle.lazy_rec.specs.declared.records.Rec.TheVariants.{BankRot}
 use Rattle.heap_store.specs.World.{recs}
 use Rattle.bank_queue.proofs.Puts.{RotationWell, rotation_well}
