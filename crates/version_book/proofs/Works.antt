@@ -1,6 +1,6 @@
 -- The work of one event.
 use Rattle.std.proofs.Common.{◌≡◌, ℕ, zero, suc, ◌+◌, ◌<◌, ◌≤◌, refl, sym, ap, ◌∙◌, subst, arith, eqb, Bool, true, false, not, ◌&&◌, ◌||◌, ⊎_elim, Option, Some, None, List, [], ◌∷◌, ◌++◌, length}
-use Rattle.std.proofs.lemmas.Bool.{true≢false, and_parts, or_right, or_cases, eqb-true}
+use Rattle.std.proofs.lemmas.Bool.{true≢false, and_parts, or_right, eqb-true}
 use Rattle.lazy_rec.specs.declared.records.Rec.{Rec}
 use Rattle.lazy_rec.specs.declared.records.Rec.TheVariants.{BankTop}
 use Rattle.lazy_rec.specs.declared.records.Sort.TheVariants as sorts
@@ -62,6 +62,9 @@ own_worked own w = record { alone = rw w.about own.alone; plan = rw w.about own.
 
 pub forced_worked : {a b : View} → Forced a b → Worked a b
 forced_worked f = record { grows = f.grows; hand = f.hand; refusals = f.refusals; about = f.about; rows = f.rows }
+
+pub forced_after : {a b c : View} → IsOwn a → Quiet a b → Forced b c → Worked a c
+forced_after {a} {b} {c} own q f = subst (λ (v : View). Worked v c) (quiet_same own q) (forced_worked f)
 
 idle_same : (h : Hand) → h.claims ≡ [] → hand_idle h ≡ h
 idle_same h e = rw (← e) refl
@@ -202,3 +205,24 @@ buildable {a} {b} {nodes} {run} job law is ready r = record {
   size = r.size;
   held = in_hand r;
 }
+
+-- ---- after the force of a need
+
+work_pending : (does : Rec → Bool) (w : World) (t : ℕ) → IsWork does w t → holds (recs w) t is_pending ≡ true
+work_pending does w t h =
+    let k = at_true _ (recs w t) h in
+    let p = and_parts (is_pending k.0) (does k.0) k.2 in
+    rw k.1 p.0
+
+pub second_need : {a b c d : View} (does does' : Rec → Bool) (job : EventJob) (t u place : ℕ) → IsOwn a → IsLawful a.seen → Quiet a b → Forced b c → Quiet c d → job.other ≡ job.base → job.stage ≡ Start → job.base.kind ≡ kinds.Bankq → IsJob a.seen job → IsEventNeed does b.seen job t → (holds (recs b.seen) t is_pending ≡ true → IsKept c.seen t place) → IsEventNeed does' d.seen job u → ⊥
+second_need {a} {b} {c} {d} does does' job t u place own law q f q' same start kind is first kept second =
+    let w = forced_after own q f in
+    let n = subst (λ (v : View). IsEventNeed does' v.seen job u) (quiet_same (own_worked own w) q') second in
+    let version = subst (λ (v : View). IsVersion v.seen job.base) (sym (quiet_same own q)) is.base in
+    no_second b.seen c.seen job does does' t u place f.grows same kind version (job_grows job law w.grows start is).base first (kept (work_pending does b.seen t first.work)) n
+
+pub ready_after : {a b c d : View} (job : EventJob) (nodes : ℕ) → IsOwn a → IsLawful a.seen → Quiet a b → Forced b c → Quiet c d → job.stage ≡ Start → IsJob a.seen job → IsReadyEvent d.seen job nodes → ReadyNow a d job nodes
+ready_after {a} {b} {c} {d} job nodes own law q f q' start is ready =
+    let w = forced_after own q f in
+    let w' = subst (λ (v : View). Worked a v) (sym (quiet_same (own_worked own w) q')) w in
+    record { worked = w'; job_is = job_grows job law w'.grows start is; ready = ready }

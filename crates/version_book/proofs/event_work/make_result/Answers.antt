@@ -1,18 +1,18 @@
-use Rattle.std.proofs.Common.{rules, ◌≡◌, ◌≤◌, [], IfOk, IfErr, ℕ, ◌+◌, ◌-◌, ◌*◌, ◌<◌, length, ◌/◌, ◌%◌, Bool, true, false, nat_eq, nat_lt, List, ◌∷◌, ◌++◌, slice_index_or, slice_set, bit_and, bit_or, Fits, w8, w32, w64, Bor, MutBor}
-use Rattle.heap_store.specs.Jobs.{IsJob}
-use Rattle.bank_queue.specs.Queue.{IsReadyEvent}
-use Rattle.version_book.specs.Book.{IsOwn}
-use Rattle.version_book.specs.Running.{Worked, Balked, Stopped, Outdone, MadeQueue, ReadyNow}
+use Rattle.std.proofs.Common.{◌≡◌, true, subst, ap, sym, ◌∙◌}
+use Rattle.std.proofs.lemmas.Bool.{true≢false}
+use Rattle.heap_store.specs.Jobs.{IsAfter}
+use Rattle.bank_queue.specs.Queue.{is_end}
+use Rattle.version_book.proofs.Works.{buildable, filled_worked}
 use Rattle.version_book.proofs.event_work.make_result.Goals as goal
 
--- src/event_work.rt:62:17
 pub build_event-after-requires-clause-build : goal.build_event-after-requires-clause-build
-build_event-after-requires-clause-build g c = ?
+build_event-after-requires-clause-build g c = buildable c.args.job.now (g.met.R.Heap.lawful c.args.heap.now) c.requires.job c.requires.ready c.in-Ok.ensures.ok
 
--- src/event_work.rt:66:35
 pub unreachable-requires : goal.unreachable-requires
-unreachable-requires g c = ?
+unreachable-requires g c = true≢false (sym c.build_event-after.ensures.ends ∙ ap is_end c.in-Next.is)
 
--- src/event_work.rt:50:1
 pub returns-in-End-clause-ok : goal.returns-in-End-clause-ok
-returns-in-End-clause-ok g c = ?
+returns-in-End-clause-ok g c = record {
+  worked = filled_worked c.requires.own c.in-Ok.ensures.ok c.build_event-after.ensures.built.filled;
+  end = subst (λ r. IsAfter (g.R.Heap.view c.build_event-after.new.h).seen c.args.job.now r) c.in-End.is c.build_event-after.ensures.built.made;
+}

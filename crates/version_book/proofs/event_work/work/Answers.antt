@@ -1,14 +1,9 @@
-use Rattle.std.proofs.Common.{rules, ◌≡◌, ◌≤◌, [], IfOk, IfErr, ℕ, ◌+◌, ◌-◌, ◌*◌, ◌<◌, length, ◌/◌, ◌%◌, Bool, true, false, nat_eq, nat_lt, List, ◌∷◌, ◌++◌, slice_index_or, slice_set, bit_and, bit_or, Fits, w8, w32, w64, Bor, MutBor}
-use Rattle.heap_store.specs.Jobs.{IsJob}
-use Rattle.bank_queue.specs.Queue.{IsReadyEvent}
-use Rattle.version_book.specs.Book.{IsOwn}
-use Rattle.version_book.specs.Running.{Worked, Balked, Stopped, Outdone, MadeQueue, ReadyNow}
+use Rattle.version_book.specs.Running.{Worked}
+use Rattle.version_book.proofs.Works.{worked_trans, worked_balked, own_worked}
 use Rattle.version_book.proofs.event_work.work.Goals as goal
 
--- src/event_work.rt:73:1
 pub returns-in-Ok-make_result-clause-ok : goal.returns-in-Ok-make_result-clause-ok
-returns-in-Ok-make_result-clause-ok g c = ?
+returns-in-Ok-make_result-clause-ok g c = record { worked = worked_trans c.in-Ok.ensures.ok.worked c.in-Ok-make_result.ensures.ok.worked; end = c.in-Ok-make_result.ensures.ok.end }
 
--- src/event_work.rt:73:1
 pub returns-in-Err-make_result-clause-err : goal.returns-in-Err-make_result-clause-err
-returns-in-Err-make_result-clause-err g c = ?
+returns-in-Err-make_result-clause-err g c = worked_balked c.in-Ok.ensures.ok.worked c.in-Err-make_result.ensures.err
