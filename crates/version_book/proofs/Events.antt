@@ -21,6 +21,7 @@ use Rattle.lazy_rec.specs.Meaning.{means}
 use Rattle.lazy_rec.specs.History.{Events, plain, list_made, reply_to, new_kind, kind_made, kind_of, has_smaller_bases, is_of_its_kind}
 use Rattle.heap_store.specs.declared.versions.Version.{Version}
 use Rattle.heap_store.specs.declared.claims.Full.{Full}
+use Rattle.heap_store.specs.declared.claims.OpenRow.{OpenRow}
 use Rattle.heap_store.specs.declared.jobs.EventJob.{EventJob}
 use Rattle.heap_store.specs.declared.jobs.Stage.{Stage}
 use Rattle.heap_store.specs.declared.jobs.Stage.TheVariants.{Start}
@@ -29,7 +30,7 @@ use Rattle.heap_store.specs.Rows.{Row, NamedRows, Ending, not_ended, answered, f
 use Rattle.heap_store.specs.Legal.{IsLegal, in_order, ending_in_range, row_in_range}
 use Rattle.heap_store.specs.Lawful.{is_root}
 use Rattle.heap_store.specs.LookedAt.{HasRoots, has_looked, row_has_looked, size_of}
-use Rattle.heap_store.specs.Hand.{Hand, contains, hand_ended, hand_refused}
+use Rattle.heap_store.specs.Hand.{Hand, contains, is_open, hand_ended, hand_refused}
 use Rattle.heap_store.specs.View.{View, IsLawfulView, SameRows}
 use Rattle.heap_store.specs.RowCalls.{Named, NoName}
 use Rattle.heap_store.specs.Jobs.{IsVersion, IsJob, IsEnd, list_at, outcome}
@@ -125,12 +126,12 @@ in_order_bank k xs e = rw e refl
 pub version_is : (w : World) → IsLegal w → HasRoots w → (i : ℕ) (v : Version) → version_at (row_at w) i ≡ Some v → v.kind ≡ kinds.Bankq → IsVersion w v
 version_is w legal roots i v h kind =
     let r = row_of_version (row_at w) i v h in
-    let well = and_parts _ _ (and_parts _ _ (legal.versions i r.0 r.1 v r.2)).1 in
+    let well = and_parts (is_some_and (same_kind v.kind) (kind_of (events_of (row_at w)) i)) (eqb v.size (length (plain (events_of (row_at w)) i))) (and_parts _ _ (legal.versions i r.0 r.1 v r.2)).0 in
     let list : means (recs w) v.root.0 ≡ plain (events_of (row_at w)) i = sym (in_order_bank v.kind (means (recs w) v.root.0) kind) ∙ legal.meanings i r.0 r.1 v r.2 in
-    let low = size_in_range r.0.ending v (and_parts _ _ (legal.ranges i r.0 r.1)).1 r.2 in
+    let low : v.size < 2147483648 = size_in_range r.0.ending v (and_parts _ _ (legal.ranges i r.0 r.1)).1 r.2 in
     record {
       root = roots.roots i r.0 r.1 v r.2;
-      size = eqb-true _ _ well.0 ∙ sym (ap length list);
+      size = eqb-true _ _ well.1 ∙ sym (ap length list);
       most = omega (arith, low);
     }
 
@@ -138,7 +139,7 @@ pub base_kind : (w : World) → IsLegal w → (e : Event) → uses_base e.op ≡
 base_kind w legal e u k v h =
     let r = row_of_version (row_at w) e.base v h in
     let kind : kind_of (events_of (row_at w)) e.base ≡ Some kinds.Bankq = sym (kind_of_base e.op (kind_of (events_of (row_at w)) e.base) u) ∙ k in
-    is_bank v.kind (some_at (same_kind v.kind) (kind_of (events_of (row_at w)) e.base) kinds.Bankq kind (and_parts _ _ (legal.versions e.base r.0 r.1 v r.2)).0)
+    is_bank v.kind (some_at (same_kind v.kind) (kind_of (events_of (row_at w)) e.base) kinds.Bankq kind (and_parts _ _ (and_parts _ _ (legal.versions e.base r.0 r.1 v r.2)).0).0)
 
 -- ---- a name
 
@@ -226,7 +227,7 @@ bank_looked op is w reply root a b = bank_ops (λ op. has_looked w op reply root
 grown_fits : (v longer : List ℕ) → length v ≤ 2147483647 → length (grown v longer).0 ≤ 2147483647
 grown_fits v longer h = by (leb (length longer) 2147483647) refl
   where
-    by : (b : Bool) → leb (length longer) 2147483647 ≡ b → length (cond b (longer, replies.Ok) (v, replies.TooLong)).0 ≤ 2147483647
+    by : (b : Bool) → leb (length longer) 2147483647 ≡ b → length (cond {A = List ℕ × Reply} b (longer, replies.Ok) (v, replies.TooLong)).0 ≤ 2147483647
     by true e = leb-true _ _ e
     by false e = h
 
@@ -262,7 +263,7 @@ work_answers w name e base o legal roots h kind u is end =
     let fits = bank_fits e.op is (list_at w base) (list_at w base) e.arg (omega (arith, length_is, version.most)) in
     let low : o.size < 2147483648 = omega (arith, end.size_is, fits) in
     let kind_is : kind_made (kind_of ev) (Some e) ≡ kind_of ev e.base = kind_of_base e.op (kind_of ev e.base) u in
-    let known_kind = (and_parts _ _ (legal.versions e.base r.0 r.1 base r.2)).0 in
+    let known_kind = (and_parts _ _ (and_parts _ _ (legal.versions e.base r.0 r.1 base r.2)).0).0 in
     let K : Option Kind → Type 0 = λ k. is_some_and (same_kind base.kind) k ≡ true in
     let L : Option Version → Type 0 = λ b. row_has_looked w (row_at w) e o.reply b ≡ true in
     record {
@@ -306,7 +307,7 @@ version_kept a b i v e h = ap (λ (o : Option Row). option_and_then (λ (r : Row
 
 pub version_begun : {v1 v2 : View} {name : ℕ} {e : Event} {base : Version} → IsNextEvent v1 name e → uses_base e.op ≡ true → Begun v1 v2 name e → version_at (row_at v1.seen) e.base ≡ Some base → version_at (row_at v2.seen) e.base ≡ Some base
 version_begun {v1} {v2} {name} {e} {base} next u b h =
-    let low = ltb-true _ _ (and_parts _ _ (base_of_all (λ i. ltb 0 i && ltb i name) e u next.smaller)).1 in
+    let low = ltb-true e.base name (and_parts (ltb 0 e.base) (ltb e.base name) (base_of_all (λ i. ltb 0 i && ltb i name) e u next.smaller)).1 in
     version_kept v1.seen v2.seen e.base base (b.set.others e.base (λ z. absurd (omega (arith, low, z)))) h
 
 pub work_may : (a b : View) (name : ℕ) (e : Event) (base : Version) (made : Result Outcome GiveUp) → a.about.capacity ≤ 4000000 → IsWorking a name false → IsLawfulView b → row_at a.seen name ≡ Some (begun_row e) → version_at (row_at a.seen) e.base ≡ Some base → base.kind ≡ kinds.Bankq → uses_base e.op ≡ true → belongs kinds.Bankq e.op ≡ true
@@ -370,7 +371,11 @@ new_finished a b name kind (Ok o) k ok err = worked_finished a b name kind o k o
 new_finished a b name kind (Err cause) k ok err = stopped_finished a b name kind cause k err
 
 ended_open : (h : Hand) (name : ℕ) (refused : Bool) → h.open_row ≡ Some (record { name = name; refused = refused }) → (hand_ended h name).open_row ≡ None
-ended_open h name refused e = rw (e, eq-eqb name name refl) refl
+ended_open h name refused e = by (is_open h name) (rw e (or_left _ _ (eq-eqb name name refl)))
+  where
+    by : (b : Bool) → b ≡ true → ◌≡◌ {A = Option OpenRow} (elim b [ true ↦ None | false ↦ h.open_row ]) None
+    by true z = refl
+    by false z = absurd (true≢false (sym z))
 
 skipped_open : (h : Hand) (name : ℕ) → h.open_row ≡ None → (hand_ended h name).open_row ≡ None
 skipped_open h name e = rw e refl
