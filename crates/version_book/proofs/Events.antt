@@ -1,6 +1,6 @@
 -- One event run, from its name to its end.
-use Rattle.std.proofs.Common.{◌≡◌, ℕ, zero, suc, ◌+◌, ◌<◌, ◌≤◌, refl, sym, ap, ◌∙◌, subst, arith, eqb, leb, ltb, Bool, true, false, cond, not, ◌&&◌, ◌||◌, Option, Some, None, Result, Ok, Err, List, [], ◌∷◌, ◌++◌, length, slice_index_or}
-use Rattle.std.specs.Prelude.{IfOk, IfErr, option_and_then, option_map, drop}
+use Rattle.std.proofs.Common.{◌≡◌, ℕ, zero, suc, ◌+◌, ◌<◌, ◌≤◌, refl, sym, ap, ◌∙◌, subst, arith, eqb, leb, ltb, Bool, true, false, cond, not, ◌&&◌, Option, Some, None, Result, Ok, Err, List, [], ◌∷◌, ◌++◌, length, slice_index_or}
+use Rattle.std.specs.Prelude.{IfOk, IfErr, option_and_then}
 use Rattle.std.specs.List.{list_all, list_any}
 use Rattle.std.proofs.lemmas.Bool.{true≢false, and_parts, and_from, or_left, eqb-true, eq-eqb, ltb-true, lt-ltb, leb-true}
 use Rattle.lazy_rec.specs.declared.records.Rec.{Rec}
@@ -15,22 +15,20 @@ use Rattle.lazy_rec.specs.declared.events.Reply.{Reply}
 use Rattle.lazy_rec.specs.declared.events.Reply.TheVariants as replies
 use Rattle.lazy_rec.specs.Tests.{is_some_and}
 use Rattle.lazy_rec.specs.Named.{is_pending, sort_of, same_sort}
-use Rattle.lazy_rec.specs.Kinds.{bases, bases_of, uses_base, uses_other, belongs, same_kind, kind_number}
+use Rattle.lazy_rec.specs.Kinds.{bases, bases_of, uses_base, uses_other, belongs, same_kind}
 use Rattle.lazy_rec.specs.Plain.{effect, grown}
 use Rattle.lazy_rec.specs.Meaning.{means}
-use Rattle.lazy_rec.specs.History.{Events, plain, list_made, reply_to, new_kind, kind_made, kind_of, has_smaller_bases, is_of_its_kind}
+use Rattle.lazy_rec.specs.History.{Events, plain, new_kind, kind_made, kind_of, is_of_its_kind}
 use Rattle.heap_store.specs.declared.versions.Version.{Version}
 use Rattle.heap_store.specs.declared.claims.Full.{Full}
 use Rattle.heap_store.specs.declared.claims.OpenRow.{OpenRow}
 use Rattle.heap_store.specs.declared.jobs.EventJob.{EventJob}
-use Rattle.heap_store.specs.declared.jobs.Stage.{Stage}
 use Rattle.heap_store.specs.declared.jobs.Stage.TheVariants.{Start}
-use Rattle.heap_store.specs.World.{World, recs, holds, is_published}
-use Rattle.heap_store.specs.Rows.{Row, NamedRows, Ending, not_ended, answered, full, memory, no_base, version_of, is_ended, is_refused, row_of, row_at, words_at, word_at, word, version_at, is_answered, is_given_up, is_ended_at, events_of}
-use Rattle.heap_store.specs.Legal.{IsLegal, in_order, ending_in_range, row_in_range}
-use Rattle.heap_store.specs.Lawful.{is_root}
+use Rattle.heap_store.specs.World.{World, recs, holds}
+use Rattle.heap_store.specs.Rows.{Row, NamedRows, Ending, not_ended, answered, full, memory, no_base, version_of, is_ended, is_refused, row_of, row_at, words_at, word, version_at, is_answered, is_given_up, is_ended_at, events_of}
+use Rattle.heap_store.specs.Legal.{IsLegal, in_order, ending_in_range}
 use Rattle.heap_store.specs.LookedAt.{HasRoots, has_looked, row_has_looked, size_of}
-use Rattle.heap_store.specs.Hand.{Hand, contains, is_open, hand_ended, hand_refused}
+use Rattle.heap_store.specs.Hand.{Hand, is_open, hand_ended}
 use Rattle.heap_store.specs.View.{View, IsLawfulView, SameRows}
 use Rattle.heap_store.specs.RowCalls.{Named, NoName}
 use Rattle.heap_store.specs.Jobs.{IsVersion, IsJob, IsEnd, list_at, outcome}
@@ -40,8 +38,8 @@ use Rattle.force_engine.specs.declared.solo.GiveUp.{GiveUp}
 use Rattle.force_engine.specs.declared.solo.GiveUp.TheVariants as causes
 use Rattle.force_engine.proofs.Finish.{contains-append_right}
 use Rattle.version_book.specs.declared.event_work.Outcome.{Outcome}
-use Rattle.version_book.specs.Book.{IsOwn, IsDrawn, IsNextEvent, MayBegin, Begun, HasLostBase, RowSet, Ended, IsWorking, Answers, begun_row, ended_row, skipped_row}
-use Rattle.version_book.specs.Running.{IsIdle, ComesNext, Ran, Worked, Balked, Stopped, Outdone, MadeQueue, MayAnswer, MayRefuse, MayEnd, ending_made}
+use Rattle.version_book.specs.Book.{IsDrawn, IsNextEvent, MayBegin, Begun, HasLostBase, Ended, IsWorking, Answers, begun_row, ended_row, skipped_row}
+use Rattle.version_book.specs.Running.{IsIdle, ComesNext, Ran, Worked, Balked, Stopped, Outdone, MadeQueue, MayEnd, ending_made}
 
 -- ---- operations of banker's queues
 
@@ -128,7 +126,7 @@ version_is w legal roots i v h kind =
     let r = row_of_version (row_at w) i v h in
     let well = and_parts (is_some_and (same_kind v.kind) (kind_of (events_of (row_at w)) i)) (eqb v.size (length (plain (events_of (row_at w)) i))) (and_parts _ _ (legal.versions i r.0 r.1 v r.2)).0 in
     let list : means (recs w) v.root.0 ≡ plain (events_of (row_at w)) i = sym (in_order_bank v.kind (means (recs w) v.root.0) kind) ∙ legal.meanings i r.0 r.1 v r.2 in
-    let low : v.size < 2147483648 = size_in_range r.0.ending v (and_parts _ _ (legal.ranges i r.0 r.1)).1 r.2 in
+    let low : v.size < 2147483648 = size_in_range r.0.ending v (and_parts (ltb r.0.caller 64) (ending_in_range r.0.ending) (legal.ranges i r.0 r.1)).1 r.2 in
     record {
       root = roots.roots i r.0 r.1 v r.2;
       size = eqb-true _ _ well.1 ∙ sym (ap length list);

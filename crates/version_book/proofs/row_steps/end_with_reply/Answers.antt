@@ -1,4 +1,3 @@
-use Rattle.std.proofs.Common.{arith, ltb}
 use Rattle.std.proofs.lemmas.Bool.{ltb-true}
 use Rattle.version_book.proofs.Endings.{reply_may, reply_done}
 use Rattle.version_book.proofs.row_steps.end_with_reply.Goals as goal
