@@ -255,7 +255,7 @@ work_answers w name e base o legal roots h kind u is end =
     let ev = events_of (row_at w) in
     let list : list_at w base ≡ plain ev e.base = legal.meanings e.base r.0 r.1 base r.2 in
     let known : outcome w (job_of e base) ≡ effect e.op (plain ev e.base) (plain ev e.other) e.arg =
-        bank_list e.op is (list_at w base) (list_at w base) (plain ev e.other) e.arg ∙ ap (λ (v : List ℕ). effect e.op v (plain ev e.other) e.arg) list in
+    bank_list e.op is (list_at w base) (list_at w base) (plain ev e.other) e.arg ∙ ap (λ (v : List ℕ). effect e.op v (plain ev e.other) e.arg) list in
     let version = version_is w legal roots e.base base h kind in
     let length_is : base.size ≡ length (list_at w base) = version.size ∙ sym (ap length (in_order_bank base.kind (means (recs w) base.root.0) kind)) in
     let fits = bank_fits e.op is (list_at w base) (list_at w base) e.arg (omega (arith, length_is, version.most)) in

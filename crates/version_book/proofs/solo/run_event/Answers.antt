@@ -9,12 +9,14 @@ end-requires g c =
     let n = c.in-Ok.ensures.ok in
     let v1 = g.R.Heap.view c.draw_name.new.self in
     let v2 = g.R.Heap.view c.begin.new.heap in
-    record { may = new_may v2 (g.R.Heap.view c.make_queue-made.new.heap) c.in-Ok.name c.args.event.now c.in-New.kind c.make_queue-made.result
-      (small_begun _ v1 _ _ c.requires.idle c.requires.next n v2 c.begin.ensures)
-      (working_begun _ v1 _ _ c.requires.idle c.requires.next n v2 c.begin.ensures)
-      (g.met.R.Heap.lawful c.make_queue-made.new.heap) c.begin.ensures.set.here
-      (new_is_queue _ v1 _ _ c.requires.idle c.requires.next n c.in-New.kind c.in-New.is) c.in-New.is
-      c.make_queue-made.ensures.ok c.make_queue-made.ensures.err }
+    record {
+      may = new_may v2 (g.R.Heap.view c.make_queue-made.new.heap) c.in-Ok.name c.args.event.now c.in-New.kind c.make_queue-made.result
+          (small_begun _ v1 _ _ c.requires.idle c.requires.next n v2 c.begin.ensures)
+          (working_begun _ v1 _ _ c.requires.idle c.requires.next n v2 c.begin.ensures)
+          (g.met.R.Heap.lawful c.make_queue-made.new.heap) c.begin.ensures.set.here
+          (new_is_queue _ v1 _ _ c.requires.idle c.requires.next n c.in-New.kind c.in-New.is) c.in-New.is
+          c.make_queue-made.ensures.ok c.make_queue-made.ensures.err;
+    }
 
 pub returns-in-New-clause-ran : goal.returns-in-New-clause-ran
 returns-in-New-clause-ran g c =
@@ -22,9 +24,9 @@ returns-in-New-clause-ran g c =
     let v1 = g.R.Heap.view c.draw_name.new.self in
     let v2 = g.R.Heap.view c.begin.new.heap in
     ran_ended c.in-New.kind c.make_queue-made.result c.requires.idle n c.begin.ensures
-      (new_finished v2 (g.R.Heap.view c.make_queue-made.new.heap) c.in-Ok.name c.in-New.kind c.make_queue-made.result
-        (working_begun _ v1 _ _ c.requires.idle c.requires.next n v2 c.begin.ensures) c.make_queue-made.ensures.ok c.make_queue-made.ensures.err)
-      c.end.ensures
+    (new_finished v2 (g.R.Heap.view c.make_queue-made.new.heap) c.in-Ok.name c.in-New.kind c.make_queue-made.result
+    (working_begun _ v1 _ _ c.requires.idle c.requires.next n v2 c.begin.ensures) c.make_queue-made.ensures.ok c.make_queue-made.ensures.err)
+    c.end.ensures
 
 pub skip-requires : goal.skip-requires
 skip-requires g c =
@@ -76,14 +78,16 @@ end-requires-2 g c =
     let h : version_at (row_at v1.seen) e.base ≡ Some base = rw (c.look.ensures.same) (sym c.look.ensures.version ∙ c.in-Some.is) in
     let u = not_new e.op c.in_default-op.not-New in
     let law = g.met.R.Heap.lawful c.look.new.heap in
-    record { may = work_may v2 (g.R.Heap.view c.work-made.new.heap) c.in-Ok.name e base c.work-made.result
-      (small_begun v0 v1 _ _ c.requires.idle c.requires.next n v2 c.begin-2.ensures)
-      (working_begun v0 v1 _ _ c.requires.idle c.requires.next n v2 c.begin-2.ensures)
-      (g.met.R.Heap.lawful c.work-made.new.heap) c.begin-2.ensures.set.here
-      (version_after v0 v1 _ e c.requires.idle c.requires.next n base u h law v2 c.begin-2.ensures)
-      (is_queue v0 v1 _ e c.requires.idle c.requires.next n base u h law) u
-      (is_op v0 v1 _ e c.requires.idle c.requires.next n base u h law)
-      c.work-made.ensures.ok c.work-made.ensures.err }
+    record {
+      may = work_may v2 (g.R.Heap.view c.work-made.new.heap) c.in-Ok.name e base c.work-made.result
+          (small_begun v0 v1 _ _ c.requires.idle c.requires.next n v2 c.begin-2.ensures)
+          (working_begun v0 v1 _ _ c.requires.idle c.requires.next n v2 c.begin-2.ensures)
+          (g.met.R.Heap.lawful c.work-made.new.heap) c.begin-2.ensures.set.here
+          (version_after v0 v1 _ e c.requires.idle c.requires.next n base u h law v2 c.begin-2.ensures)
+          (is_queue v0 v1 _ e c.requires.idle c.requires.next n base u h law) u
+          (is_op v0 v1 _ e c.requires.idle c.requires.next n base u h law)
+          c.work-made.ensures.ok c.work-made.ensures.err;
+    }
 
 pub returns : goal.returns
 returns g c =
@@ -94,8 +98,8 @@ returns g c =
     let n : Named v0 v1 c.in-Ok.name = rw (c.look.ensures.same) c.in-Ok.ensures.ok in
     record {
       ran = ran_ended base.kind c.work-made.result c.requires.idle n c.begin-2.ensures
-        (work_finished v2 (g.R.Heap.view c.work-made.new.heap) c.in-Ok.name base.kind (job_of c.args.event.now base) c.work-made.result
+          (work_finished v2 (g.R.Heap.view c.work-made.new.heap) c.in-Ok.name base.kind (job_of c.args.event.now base) c.work-made.result
           (working_begun v0 v1 _ _ c.requires.idle c.requires.next n v2 c.begin-2.ensures) c.work-made.ensures.ok c.work-made.ensures.err)
-        c.end-2.ensures;
+          c.end-2.ensures;
       empty = c.work-made.ensures.empty;
     }
