@@ -17,7 +17,7 @@ use Rattle.heap_store.specs.declared.versions.Version.{Version}
 use Rattle.heap_store.specs.declared.claims.Full.{Full}
 use Rattle.heap_store.specs.World.{World, recs, holds}
 use Rattle.heap_store.specs.Rows.{Row, NamedRows, Ending, not_ended, answered, full, memory, no_base, ending_of, is_refused, row_at, words_at, word_at, store_word, reply_of_word, version_of_word, events_of, version_at, is_given_up, is_answered}
-use Rattle.heap_store.specs.Legal.{in_order, row_in_range, is_begun_well}
+use Rattle.heap_store.specs.Legal.{in_order, reply_in_range, row_in_range, is_begun_well}
 use Rattle.heap_store.specs.Lawful.{is_root}
 use Rattle.heap_store.specs.LookedAt.{row_has_looked}
 use Rattle.heap_store.specs.Hand.{Hand}
@@ -72,9 +72,9 @@ reply_ending : (w : World) (name w3 w4 : ℕ) (reply : Reply) (version : Version
     → ending_of name (words_at w name) ≡ answered reply version
 reply_ending w name w3 w4 reply version a b c v r n = rw (a, c, b, r, v.version_is name, ← n) refl
 
-answered_well : (v : View) (name : ℕ) (e : Event) (reply : Reply) (u : Version) → IsLawfulView v → row_at v.seen name ≡ Some (begun_row e) → Answers v.seen e reply u → RowWell (recs v.seen) (row_at v.seen) name (ended_row e (answered reply u))
-answered_well v name e reply u law here a = record {
-  range = a.in_range;
+answered_well : (v : View) (name : ℕ) (e : Event) (reply : Reply) (u : Version) → IsLawfulView v → row_at v.seen name ≡ Some (begun_row e) → reply_in_range reply ≡ true → Answers v.seen e reply u → RowWell (recs v.seen) (row_at v.seen) name (ended_row e (answered reply u))
+answered_well v name e reply u law here reply_fits a = record {
+  range = and_from _ _ reply_fits a.in_range;
   trim = law.legal.trim name _ here;
   smaller = law.legal.bases name _ here;
   begun = law.legal.begun name _ here;
@@ -99,12 +99,12 @@ module _ (v0 v1 v2 : View) (w3 w4 : ℕ) (reply : Reply) (version : Version) (k 
       (word-other v2.seen version.name 5 1 4 (λ z. absurd (omega arith)) ∙ p4.here)
       version_word reply_word refl
 
-  pub reply_may : Answers v0.seen k.event reply version → MayEndRow v2 version.name 1
-  reply_may a =
+  pub reply_may : reply_in_range reply ≡ true → Answers v0.seen k.event reply version → MayEndRow v2 version.name 1
+  reply_may reply_fits a =
       let b = answers_put v1 v2 version.name 4 w4 p4 k.event reply version (answers_put v0 v1 version.name 3 w3 p3 k.event reply version a) in
       may_end v2 version.name 1 false law working2 (omega arith) (omega arith) (answered reply version) reply_end
         (record { idle = working2.own.claims; full_where = sym (not_refused v2.hand version.name working2.open_row); numbers = λ d n z. cc })
-        (answered_well v2 version.name k.event reply version law working2.here b)
+        (answered_well v2 version.name k.event reply version law working2.here reply_fits b)
         (λ u z. (let same = one_value version u z in rw (← same) b.root))
         (λ told u z. (let f = told_is z in rw f b.looked))
     where

@@ -16,7 +16,7 @@ use Rattle.heap_store.specs.Growth.{Grows}
 use Rattle.heap_store.specs.Rows.{Row, Ending, not_ended, answered, full, memory, no_base, row_at, word_at, store_word, version_at, is_answered, is_given_up, events_of}
 use Rattle.heap_store.specs.Hand.{Hand, contains, hand_begun, hand_ended}
 use Rattle.heap_store.specs.RowCalls.{is_word_value, EndsWell}
-use Rattle.heap_store.specs.Legal.{IsLegal, in_order, reply_in_range}
+use Rattle.heap_store.specs.Legal.{IsLegal, in_order}
 use Rattle.heap_store.specs.Lawful.{is_root}
 use Rattle.heap_store.specs.LookedAt.{HasRoots, row_has_looked}
 use Rattle.heap_store.specs.View.{View}
@@ -95,7 +95,7 @@ pub record IsWorking (v : View) (name : ℕ) (refused : Bool) : Type 0 where
 
 -- the reply and the version are those of the event on the plain lists of its bases, and the base was looked at
 pub record Answers (w : World) (e : Event) (reply : Reply) (v : Version) : Type 0 where
-  pub in_range : (reply_in_range reply && ltb v.size 2147483648) ≡ true
+  pub in_range : ltb v.size 2147483648 ≡ true
   pub kind : is_some_and (same_kind v.kind) (kind_made (kind_of (events_of (row_at w))) (Some e)) ≡ true
   pub size : v.size ≡ length (list_made (plain (events_of (row_at w))) (Some e))
   pub value : holds (recs w) v.root.0 (λ r. not (is_pending r)) ≡ true

@@ -24,7 +24,7 @@ use Rattle.bank_queue.specs.Queue.{IsReadyEvent}
 use Rattle.force_engine.specs.declared.solo.GiveUp.{GiveUp}
 use Rattle.force_engine.specs.declared.solo.GiveUp.TheVariants as causes
 use Rattle.version_book.specs.declared.event_work.Outcome.{Outcome}
-use Rattle.version_book.specs.Book.{IsOwn, IsNextEvent}
+use Rattle.version_book.specs.Book.{IsOwn, IsNextEvent, IsWorking, Answers, begun_row}
 
 -- ---- an event's work
 
@@ -104,3 +104,22 @@ abbrev pub ending_made : ℕ → Kind → Result Outcome GiveUp → Ending
 ending_made name kind (Ok o) = answered o.reply (record { name = name; kind = kind; size = o.size; root = o.root })
 ending_made name kind (Err (causes.Full refusal)) = full refusal.drawn refusal.wanted
 ending_made name kind (Err causes.NoMemory) = memory
+
+-- the work gave the answer to the begun event
+pub record MayAnswer (v : View) (name : ℕ) (kind : Kind) (o : Outcome) : Type 0 where
+  pub working : IsWorking v name false
+  pub answers : (e : Event) → row_at v.seen name ≡ Some (begun_row e) → Answers v.seen e o.reply (record { name = name; kind = kind; size = o.size; root = o.root })
+  pub place : o.root.0 < 4194304
+
+-- the last reserve was refused since the event was begun
+pub record MayRefuse (v : View) (name : ℕ) (refusal : Full) : Type 0 where
+  pub working : IsWorking v name true
+  pub last : refusal ≡ v.refusals.last
+  pub drawn : refusal.drawn ≤ 260000000
+  pub wanted : 1 ≤ refusal.wanted
+
+-- what ending the row of a begun event asks, as its work came out
+abbrev pub MayEnd : View → ℕ → Kind → Result Outcome GiveUp → Type 0
+MayEnd v name kind (Ok o) = MayAnswer v name kind o
+MayEnd v name kind (Err (causes.Full refusal)) = MayRefuse v name refusal
+MayEnd v name kind (Err causes.NoMemory) = IsWorking v name false

@@ -1,10 +1,11 @@
 //! Events in order, on one thread.
-ghost use Rattle.std.specs.Prelude.{◌≡◌, ◌≤◌, [], true, IfOk, IfErr};
+ghost use Rattle.std.specs.Prelude.{◌≡◌, ◌≤◌, [], true, Some, IfOk, IfErr};
+ghost use Rattle.lazy_rec.specs.declared.events.Event.{Event};
 ghost use Rattle.lazy_rec.specs.History.{IsScript};
 ghost use Rattle.heap_store.specs.Rows.{row_at, version_at, is_ended_at};
-ghost use Rattle.version_book.specs.Book.{IsOwn};
+ghost use Rattle.version_book.specs.Book.{IsOwn, Ended, begun_row, ended_row};
 ghost use Rattle.version_book.specs.Closed.{AreQueues, IsBook};
-ghost use Rattle.version_book.specs.Running.{IsIdle, ComesNext, Ran};
+ghost use Rattle.version_book.specs.Running.{IsIdle, ComesNext, Ran, MayEnd, ending_made};
 
 use crate::closed::Closed;
 use crate::event_work::{Outcome, make_queue, work};
@@ -29,7 +30,10 @@ fn look<R: Rows>(heap: &mut R, name: u32) -> Option<Version>
 }
 
 /// Ends the row of a begun event as its work came out.
-fn end<R: Rows>(heap: &mut R, name: u32, kind: Kind, made: Result<Outcome, GiveUp>) {
+fn end<R: Rows>(heap: &mut R, name: u32, kind: Kind, made: Result<Outcome, GiveUp>)
+    requires may { MayEnd (R.view heap.old) name kind made }
+    ensures { (e : Event) → row_at (R.view heap.old).seen name ≡ Some (begun_row e) → Ended (R.view heap.old) (R.view heap.new) name (ended_row e (ending_made name kind made)) }
+{
     match made {
         Ok(outcome) => {
             let version = Version {
