@@ -1,5 +1,5 @@
 -- The work of one event.
-use Rattle.std.proofs.Common.{◌≡◌, ℕ, zero, suc, ◌+◌, ◌<◌, ◌≤◌, refl, sym, ap, ◌∙◌, subst, arith, eqb, Bool, true, false, not, ◌&&◌, ◌||◌, ⊎_elim, Option, Some, None, List, [], ◌∷◌, ◌++◌, length}
+use Rattle.std.proofs.Common.{◌≡◌, ℕ, refl, sym, ap, ◌∙◌, subst, arith, Bool, true, false, ◌||◌, Some, None, List, [], ◌∷◌, ◌++◌, length}
 use Rattle.std.proofs.lemmas.Bool.{true≢false, and_parts, or_right, eqb-true}
 use Rattle.lazy_rec.specs.declared.records.Rec.{Rec}
 use Rattle.lazy_rec.specs.declared.records.Rec.TheVariants.{BankTop}
@@ -8,7 +8,6 @@ use Rattle.lazy_rec.specs.declared.events.Kind.TheVariants as kinds
 use Rattle.lazy_rec.specs.declared.events.Op.{Op}
 use Rattle.lazy_rec.specs.declared.events.Op.TheVariants as ops
 use Rattle.lazy_rec.specs.Named.{is_pending, sort_of, same_sort}
-use Rattle.lazy_rec.specs.Meaning.{means}
 use Rattle.heap_store.specs.declared.claims.HeldClaim.{HeldClaim}
 use Rattle.heap_store.specs.declared.claims.Full.{Full}
 use Rattle.heap_store.specs.declared.jobs.EventJob.{EventJob}
@@ -19,9 +18,9 @@ use Rattle.heap_store.specs.Span.{Span}
 use Rattle.heap_store.specs.World.{World, recs, holds, done_at}
 use Rattle.heap_store.specs.Growth.{Grows}
 use Rattle.heap_store.specs.Lawful.{IsLawful, is_root}
-use Rattle.heap_store.specs.Hand.{Hand, IsInHand, contains, claim_places, places_from, without, hand_refused, hand_reserved}
-use Rattle.heap_store.specs.View.{View, About, Refusals, IsLawfulView, Quiet, SameRows, Reserved, Refused}
-use Rattle.heap_store.specs.Jobs.{IsWork, IsVersion, IsJob, StageWell, IsEventNeed, IsEventBuildable, IsEventBuilt, Filled, may_seek}
+use Rattle.heap_store.specs.Hand.{Hand, IsInHand, claim_places, places_from, without, hand_refused}
+use Rattle.heap_store.specs.View.{View, Refusals, IsLawfulView, Quiet, Reserved, Refused}
+use Rattle.heap_store.specs.Jobs.{IsWork, IsVersion, IsJob, StageWell, IsEventNeed, IsEventBuildable, Filled, may_seek}
 use Rattle.heap_store.proofs.GrowthLaws.{at_true, grows_refl, grows_trans}
 use Rattle.heap_store.proofs.Steps.{SameRows_refl, SameRows_trans}
 use Rattle.heap_store.proofs.MeaningLaws.{means_kept}

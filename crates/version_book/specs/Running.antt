@@ -1,23 +1,20 @@
 -- One event's work, and one event run, on a heap that no other hand works on.
-use Rattle.std.specs.Prelude.{◌≡◌, ℕ, ◌+◌, ◌<◌, ◌≤◌, Bool, true, false, not, ◌||◌, Option, Some, None, List, [], Result, Ok, Err}
+use Rattle.std.specs.Prelude.{◌≡◌, ℕ, ◌+◌, ◌<◌, ◌≤◌, true, false, Some, None, [], Result, Ok, Err}
 use Rattle.std.specs.List.{list_all}
-use Rattle.lazy_rec.specs.declared.places.Ref.{Ref}
 use Rattle.lazy_rec.specs.declared.events.Kind.{Kind}
 use Rattle.lazy_rec.specs.declared.events.Kind.TheVariants.{Bankq}
 use Rattle.lazy_rec.specs.declared.events.Event.{Event}
-use Rattle.lazy_rec.specs.declared.events.Reply.{Reply}
 use Rattle.lazy_rec.specs.declared.events.Reply.TheVariants as replies
 use Rattle.lazy_rec.specs.Kinds.{bases}
 use Rattle.lazy_rec.specs.Meaning.{means}
 use Rattle.lazy_rec.specs.History.{kind_made, kind_of, is_of_its_kind}
 use Rattle.heap_store.specs.declared.claims.Full.{Full}
 use Rattle.heap_store.specs.declared.jobs.EventJob.{EventJob}
-use Rattle.heap_store.specs.declared.versions.Version.{Version}
-use Rattle.heap_store.specs.World.{World, recs, holds}
+use Rattle.heap_store.specs.World.{recs, holds}
 use Rattle.heap_store.specs.Growth.{Grows}
 use Rattle.heap_store.specs.Rows.{Row, Ending, answered, full, memory, row_at, is_ended, is_ended_at, events_of}
 use Rattle.heap_store.specs.Lawful.{is_root}
-use Rattle.heap_store.specs.Hand.{Hand, hand_refused}
+use Rattle.heap_store.specs.Hand.{hand_refused}
 use Rattle.heap_store.specs.View.{View, SameRows}
 use Rattle.heap_store.specs.Jobs.{IsEnd, IsJob}
 use Rattle.bank_queue.specs.Queue.{IsReadyEvent}

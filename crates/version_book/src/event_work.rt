@@ -70,7 +70,11 @@ fn make_result<R: Rows>(heap: &mut R, job: &EventJob, nodes: u32) -> Result<Outc
 }
 
 /// The work of an operation other than `new`.
-pub(crate) fn work<R: Rows>(heap: &mut R, stack: &mut Stack, job: &EventJob) -> Result<Outcome, GiveUp>
+pub(crate) fn work<R: Rows>(
+    heap: &mut R,
+    stack: &mut Stack,
+    job: &EventJob,
+) -> Result<Outcome, GiveUp>
     requires own { IsOwn (R.view heap.old) }
     requires small { (R.view heap.old).about.capacity ≤ 4000000 }
     requires empty { stack.old ≡ [] }

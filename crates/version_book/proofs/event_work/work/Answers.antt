@@ -1,5 +1,4 @@
-use Rattle.version_book.specs.Running.{Worked}
-use Rattle.version_book.proofs.Works.{worked_trans, worked_balked, own_worked}
+use Rattle.version_book.proofs.Works.{worked_trans, worked_balked}
 use Rattle.version_book.proofs.event_work.work.Goals as goal
 
 pub returns-in-Ok-make_result-clause-ok : goal.returns-in-Ok-make_result-clause-ok

@@ -1,7 +1,7 @@
 use Rattle.std.proofs.Common.{◌≡◌, refl, sym, ◌∙◌, Some, None}
 use Rattle.heap_store.specs.Rows.{row_at, version_at}
 use Rattle.heap_store.specs.RowCalls.{Named}
-use Rattle.version_book.proofs.Events.{not_new, named_drawn, named_next, lost, small_begun, working_begun, new_is_queue, begins_new, begins_based, is_op, is_queue, version_after, job_begun, job_of, work_may, new_may, work_finished, new_finished, ran_skipped, ran_ended}
+use Rattle.version_book.proofs.Events.{not_new, named_drawn, named_next, lost, small_begun, working_begun, new_is_queue, is_op, is_queue, version_after, job_begun, job_of, work_may, new_may, work_finished, new_finished, ran_skipped, ran_ended}
 use Rattle.version_book.proofs.solo.run_event.Goals as goal
 
 pub end-requires : goal.end-requires
@@ -65,6 +65,7 @@ work-made-requires g c =
       job = job_begun v0 v1 _ e c.requires.idle c.requires.next n base u h law v2 c.begin-2.ensures (g.met.R.Heap.lawful c.begin-2.new.heap);
       start = refl;
       kind = is_queue v0 v1 _ e c.requires.idle c.requires.next n base u h law;
+      same = refl;
     }
 
 pub end-requires-2 : goal.end-requires-2

@@ -1,4 +1,4 @@
-use Rattle.std.proofs.Common.{◌≡◌, ℕ, ◌≤◌, List, length, subst}
+use Rattle.std.proofs.Common.{ℕ, ◌≤◌, List, length, subst}
 use Rattle.heap_store.specs.World.{World}
 use Rattle.version_book.specs.Closed.{IsReadable}
 use Rattle.version_book.proofs.WordLaws.{words-read}
