@@ -7,3 +7,4 @@ pub mod Ends
 pub mod Endings
 pub mod Skips
 pub mod Works
+pub mod Books

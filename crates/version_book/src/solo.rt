@@ -11,7 +11,7 @@ use crate::event_work::{Outcome, make_queue, work};
 use crate::row_steps::{begin, end_for_memory, end_full, end_with_reply, skip};
 use crate::words::{REPLIED, version_of};
 use force_engine::{GiveUp, Stack};
-use heap_store::{EventJob, Heap, Rows, Stage, Version};
+use heap_store::{EventJob, Heap, PlainHeap, Rows, Stage, Version};
 use lazy_rec::{Event, Kind, NoMemory, Op};
 use std::alloc::Global;
 
@@ -85,8 +85,10 @@ pub fn solo_book(alloc: Global, nodes: u32, events: &[Event]) -> Result<Closed, 
     requires queues { AreQueues events.now }
     ensures { IfOk result (λ closed. IsBook closed nodes events.now) }
 {
-    let _alloc = alloc;
-    let _nodes = nodes;
-    let _events = events;
-    Err(NoMemory)
+    let mut heap = PlainHeap::open(alloc, nodes, events.len() as u32)?;
+    let mut stack = Stack::open(alloc)?;
+    for event in events {
+        run_event(&mut heap, &mut stack, event);
+    }
+    Ok(Closed::of(heap))
 }
