@@ -2,13 +2,13 @@
 use Rattle.std.proofs.Common.{◌≡◌, ℕ, zero, suc, ◌+◌, ◌/◌, ◌<◌, ◌≤◌, eqb, ltb, Bool, true, false, cond, ◌&&◌, ◌||◌, Option, Some, None, List, [], ◌∷◌, length, refl, sym, ap, ◌∙◌, arith, subst, ⊎_elim}
 use Rattle.std.specs.Prelude.{option_map}
 use Rattle.std.specs.List.{list_all}
-use Rattle.std.proofs.lemmas.Bool.{and_parts, ltb-true, cases_eq, cases_lt}
+use Rattle.std.proofs.lemmas.Bool.{and_parts, ltb-true, eqb-true, cases_eq, cases_lt}
 use Rattle.lazy_rec.specs.declared.events.Kind.{Kind}
 use Rattle.lazy_rec.specs.declared.events.Op.{Op}
 use Rattle.lazy_rec.specs.declared.events.Event.{Event}
 use Rattle.lazy_rec.specs.Tests.{is_some_and}
 use Rattle.lazy_rec.specs.ByPlace.{below, by_place}
-use Rattle.lazy_rec.specs.Kinds.{bases, bases_of, uses_base, uses_other, belongs, same_kind, is_trim}
+use Rattle.lazy_rec.specs.Kinds.{bases, bases_of, uses_base, uses_other, uses_argument, belongs, same_kind, is_trim}
 use Rattle.lazy_rec.specs.History.{Events, event_of, kind_of, kind_made, new_kind, has_smaller_bases, is_of_its_kind, IsScript}
 use Rattle.heap_store.specs.declared.plain.PlainHeap.{PlainHeap}
 use Rattle.heap_store.specs.World.{World}
@@ -103,7 +103,7 @@ module _ (nodes : ℕ) (events : List Event) (script : IsScript events) (queues 
   events_same zero l = refl
   events_same (suc k) l =
       let t = h.rows_are (suc k) (omega arith) l in
-      t.1.1.event ∙ sym (ap (option_map (λ (r : Row). r.event)) t.1.0)
+      t.2.event ∙ sym (ap (option_map (λ (r : Row). r.event)) t.1)
 
   kinds_same : (k : ℕ) → k ≤ i → kind_of (event_of events) k ≡ kind_of (events_of (row_at v.seen)) k
   kinds_same k l = kind_of_agree (event_of events) (events_of (row_at v.seen)) k (λ p m. events_same p (omega (arith, m, l)))
@@ -111,16 +111,17 @@ module _ (nodes : ℕ) (events : List Event) (script : IsScript events) (queues 
   ended_there : (k : ℕ) → is_below (suc i) k ≡ true → is_ended_at (row_at v.seen) k ≡ true
   ended_there k b =
       let t = h.rows_are k (let q = ltb-true 0 k (and_parts (ltb 0 k) (ltb k (suc i)) b).0 in omega (arith, q)) (below_is i k b) in
-      rw t.1.0 t.1.1.ended
+      rw t.1 t.2.ended
 
   pub comes-next : (e : Event) → event_of events (suc i) ≡ Some e → i < length events → ComesNext v e
   comes-next e here more =
-      let t = script.each (suc i) e here in
-      let trim : is_trim e ≡ true = (and_parts _ _ t).0 in
-      let u = (and_parts _ _ t).1 in
-      let smaller : has_smaller_bases (suc i) e ≡ true = (and_parts _ _ u).0 in
-      let kinds : is_of_its_kind (event_of events) e ≡ true = (and_parts _ _ u).1 in
-      let low : e.base ≤ i = base_low e.op e.base e.other i (and_parts (uses_base e.op || eqb e.base 0) _ trim).0 smaller in
+      let t = and_parts (is_trim e && has_smaller_bases (suc i) e) (is_of_its_kind (event_of events) e) (script.each (suc i) e here) in
+      let u = and_parts (is_trim e) (has_smaller_bases (suc i) e) t.0 in
+      let trim : is_trim e ≡ true = u.0 in
+      let smaller : has_smaller_bases (suc i) e ≡ true = u.1 in
+      let kinds : is_of_its_kind (event_of events) e ≡ true = t.1 in
+      let trims = and_parts ((uses_base e.op || eqb e.base 0) && (uses_other e.op || eqb e.other 0)) (uses_argument e.op || eqb e.arg 0) trim in
+      let low : e.base ≤ i = base_low e.op e.base e.other i (and_parts (uses_base e.op || eqb e.base 0) (uses_other e.op || eqb e.other 0) trims.0).0 smaller in
       let name : suc i ≡ v.named + 1 = omega (arith, h.named) in
       record {
         room = omega (arith, h.named, h.rows, more);
@@ -141,6 +142,12 @@ module _ (nodes : ℕ) (events : List Event) (script : IsScript events) (queues 
     rows_are = λ j low high. ⊎_elim (new j) (old j low high) (cases_eq j (v.named + 1));
   }
     where
+      within : (j n i : ℕ) → j ≤ n → n ≡ suc i → (j ≡ suc i → ⊥) → j ≤ i
+      within j n i high a ne = grind arith
+
+      before : (j n i m : ℕ) → (j ≡ m + 1 → ⊥) → j ≤ n → n ≡ suc i → m ≡ i → j ≤ i
+      before j n i m ne high a b = ⊎_elim (λ (eq : j ≡ suc i). absurd (ne (omega (arith, eq, b)))) (λ ne2. within j n i high a ne2) (cases_eq j (suc i))
+
       new : (j : ℕ) → j ≡ v.named + 1 → (r : Row) × (row_at w.seen j ≡ Some r) × IsRun nodes events j r
       new j eq =
           let name : j ≡ suc i = omega (arith, eq, h.named) in
@@ -155,13 +162,7 @@ module _ (nodes : ℕ) (events : List Event) (script : IsScript events) (queues 
       old : (j : ℕ) → 1 ≤ j → j ≤ n → (j ≡ v.named + 1 → ⊥) → (r : Row) × (row_at w.seen j ≡ Some r) × IsRun nodes events j r
       old j low high ne =
           let t = h.rows_are j low (before j n i v.named ne high n_is h.named) in
-          (t.0, ran.others j ne ∙ t.1.0, t.1.1)
-
-      before : (j n i m : ℕ) → (j ≡ m + 1 → ⊥) → j ≤ n → n ≡ suc i → m ≡ i → j ≤ i
-      before j n i m ne high a b = ⊎_elim (λ (eq : j ≡ suc i). absurd (ne (omega (arith, eq, b)))) (λ ne2. within j n i high a ne2) (cases_eq j (suc i))
-
-      within : (j n i : ℕ) → j ≤ n → n ≡ suc i → (j ≡ suc i → ⊥) → j ≤ i
-      within j n i high a ne = grind arith
+          (t.0, ran.others j ne ∙ t.1, t.2)
 
 -- ---- the book in the end
 
@@ -182,7 +183,7 @@ module _ (nodes : ℕ) (events : List Event) (i : ℕ) (v : View) (law : IsLawfu
   row_there (suc k) r e = ⊎_elim
       (λ l. (let z : None ≡ Some r = sym (law.unnamed h.idle.own.alone (suc k) l) ∙ e in cc))
       (λ l. (let t = h.rows_are (suc k) (omega arith) (omega (arith, l, h.named)) in
-      subst (IsRun nodes events (suc k)) (one_value t.0 r (sym t.1.0 ∙ e)) t.1.1))
+      subst (IsRun nodes events (suc k)) (one_value t.0 r (sym t.1 ∙ e)) t.2))
       (cases_lt v.named (suc k))
 
   pub is_book : IsBook v.seen nodes events
@@ -201,10 +202,10 @@ module _ (nodes : ℕ) (events : List Event) (i : ℕ) (v : View) (law : IsLawfu
       roots = law.roots;
       readable = λ j low high. (let t = h.rows_are j low (omega (arith, high, all, h.rows, last)) in record {
         row = t.0;
-        here = t.1.0;
-        ended = t.1.1.ended;
-        range = law.legal.ranges j t.0 t.1.0;
-        argument = subst (λ z. z < 4294967296) (arg_word j (words_at v.seen j) t.0 t.1.0) t.1.1.arg;
+        here = t.1;
+        ended = t.2.ended;
+        range = law.legal.ranges j t.0 t.1;
+        argument = subst (λ z. z < 4294967296) (arg_word j (words_at v.seen j) t.0 t.1) t.2.arg;
       });
     };
     named = omega (arith, all, h.rows, h.named, last);

@@ -1,5 +1,5 @@
 //! Events in order, on one thread.
-ghost use Rattle.std.specs.Prelude.{◌≡◌, ◌≤◌, [], true, IfOk, IfErr};
+ghost use Rattle.std.specs.Prelude.{◌≡◌, ◌<◌, ◌≤◌, [], true, IfOk, IfErr};
 ghost use Rattle.lazy_rec.specs.History.{IsScript};
 ghost use Rattle.heap_store.specs.Rows.{row_at, version_at, is_ended_at};
 ghost use Rattle.version_book.specs.Book.{IsOwn};
@@ -78,6 +78,14 @@ fn run_event<R: Rows>(heap: &mut R, stack: &mut Stack, event: &Event)
     end(heap, name, base.kind, made);
 }
 
+/// The argument of an event, a number of 32 bits.
+fn argument(event: &Event) -> u32
+    ensures same { result ≡ event.now.arg }
+    ensures small { event.now.arg < 4294967296 }
+{
+    event.arg
+}
+
 /// Runs the events in order over a store of so many places, each from the versions that it names.
 pub fn solo_book(alloc: Global, nodes: u32, events: &[Event]) -> Result<Closed, NoMemory>
     requires nodes { nodes ≤ 4000000 }
@@ -88,6 +96,7 @@ pub fn solo_book(alloc: Global, nodes: u32, events: &[Event]) -> Result<Closed, 
     let mut heap = PlainHeap::open(alloc, nodes, events.len() as u32)?;
     let mut stack = Stack::open(alloc)?;
     for event in events {
+        let _ = argument(event);
         run_event(&mut heap, &mut stack, event);
     }
     Ok(Closed::of(heap))
