@@ -11,7 +11,6 @@ use Rattle.lazy_rec.specs.ByPlace.{below, by_place}
 use Rattle.lazy_rec.specs.Kinds.{bases, bases_of, uses_base, uses_other, uses_argument, belongs, same_kind, is_trim}
 use Rattle.lazy_rec.specs.History.{Events, event_of, kind_of, kind_made, new_kind, has_smaller_bases, is_of_its_kind, IsScript}
 use Rattle.heap_store.specs.declared.plain.PlainHeap.{PlainHeap}
-use Rattle.heap_store.specs.World.{World}
 use Rattle.heap_store.specs.Rows.{Row, full, word, words_at, row_of, row_with, row_at, is_ended, is_ended_at, events_of, op_of_number}
 use Rattle.heap_store.specs.View.{View, About, IsLawfulView}
 use Rattle.heap_store.specs.Plain.{no_words}
@@ -19,8 +18,7 @@ use Rattle.heap_store.specs.Opened.{view_of, opened_view}
 use Rattle.heap_store.proofs.PlainLists.{length-filled}
 use Rattle.heap_store.proofs.HistoryLaws.{kind_is}
 use Rattle.heap_store.proofs.ShowLaws.{one_value}
-use Rattle.version_book.specs.Book.{IsNextEvent}
-use Rattle.version_book.specs.Closed.{AreQueues, IsBook, IsClosed, IsWhole}
+use Rattle.version_book.specs.Closed.{AreQueues, IsBook, IsWhole}
 use Rattle.version_book.specs.Running.{IsIdle, ComesNext, Ran}
 
 -- ---- what holds after so many events

@@ -1,13 +1,13 @@
 -- Closed books, and what their rows and nodes tell.
-use Rattle.std.specs.Prelude.{◌≡◌, ℕ, ◌+◌, ◌<◌, ◌≤◌, Bool, true, Option, Some, None, List, length, option_map}
+use Rattle.std.specs.Prelude.{◌≡◌, ℕ, ◌+◌, ◌<◌, ◌≤◌, true, Option, Some, None, List, length, option_map}
 use Rattle.lazy_rec.specs.declared.records.Rec.{Rec}
 use Rattle.lazy_rec.specs.declared.states.SuspState.{SuspState}
 use Rattle.lazy_rec.specs.declared.events.Event.{Event}
 use Rattle.lazy_rec.specs.History.{event_of, kind_of}
 use Rattle.lazy_rec.specs.declared.events.Kind.TheVariants.{Bankq}
 use Rattle.heap_store.specs.declared.nodes.Node.{Node}
-use Rattle.heap_store.specs.World.{World, recs}
-use Rattle.heap_store.specs.Rows.{Row, Ending, not_ended, answered, full, memory, no_base, word, words_at, row_of, row_at, is_ended, is_ended_at}
+use Rattle.heap_store.specs.World.{World}
+use Rattle.heap_store.specs.Rows.{Row, Ending, not_ended, answered, full, memory, no_base, word, words_at, row_of, row_at, is_ended}
 use Rattle.heap_store.specs.Legal.{IsLegal, row_in_range}
 use Rattle.heap_store.specs.Lawful.{IsLawful}
 use Rattle.heap_store.specs.LookedAt.{HasRoots}

@@ -1,4 +1,4 @@
-use Rattle.std.proofs.Common.{◌≡◌, ℕ, ◌≤◌, ◌∙◌, List, length, arith, subst, sym, ap}
+use Rattle.std.proofs.Common.{ℕ, ◌≤◌, List, length, arith, subst, sym}
 use Rattle.heap_store.specs.Opened.{view_of}
 use Rattle.version_book.specs.Closed.{IsReadable}
 use Rattle.version_book.proofs.closed.Closed.row.Goals as goal
