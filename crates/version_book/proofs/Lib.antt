@@ -8,3 +8,4 @@ pub mod Endings
 pub mod Skips
 pub mod Works
 pub mod Events
+pub mod Books

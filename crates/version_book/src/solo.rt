@@ -1,5 +1,5 @@
 //! Events in order, on one thread.
-ghost use Rattle.std.specs.Prelude.{◌≡◌, ◌≤◌, [], true, Some, IfOk, IfErr};
+ghost use Rattle.std.specs.Prelude.{◌≡◌, ◌<◌, ◌≤◌, [], true, Some, IfOk, IfErr};
 ghost use Rattle.lazy_rec.specs.declared.events.Event.{Event};
 ghost use Rattle.lazy_rec.specs.History.{IsScript};
 ghost use Rattle.heap_store.specs.Rows.{row_at, version_at, is_ended_at};
@@ -12,7 +12,7 @@ use crate::event_work::{Outcome, make_queue, work};
 use crate::row_steps::{begin, end_for_memory, end_full, end_with_reply, skip};
 use crate::words::{REPLIED, version_of};
 use force_engine::{GiveUp, Stack};
-use heap_store::{EventJob, Heap, Rows, Stage, Version};
+use heap_store::{EventJob, Heap, PlainHeap, Rows, Stage, Version};
 use lazy_rec::{Event, Kind, NoMemory, Op};
 use std::alloc::Global;
 
@@ -82,6 +82,14 @@ fn run_event<R: Rows>(heap: &mut R, stack: &mut Stack, event: &Event)
     end(heap, name, base.kind, made);
 }
 
+/// The argument of an event, a number of 32 bits.
+fn argument(event: &Event) -> u32
+    ensures same { result ≡ event.now.arg }
+    ensures small { event.now.arg < 4294967296 }
+{
+    event.arg
+}
+
 /// Runs the events in order over a store of so many places, each from the versions that it names.
 pub fn solo_book(alloc: Global, nodes: u32, events: &[Event]) -> Result<Closed, NoMemory>
     requires nodes { nodes ≤ 4000000 }
@@ -89,8 +97,11 @@ pub fn solo_book(alloc: Global, nodes: u32, events: &[Event]) -> Result<Closed, 
     requires queues { AreQueues events.now }
     ensures { IfOk result (λ closed. IsBook closed nodes events.now) }
 {
-    let _alloc = alloc;
-    let _nodes = nodes;
-    let _events = events;
-    Err(NoMemory)
+    let mut heap = PlainHeap::open(alloc, nodes, events.len() as u32)?;
+    let mut stack = Stack::open(alloc)?;
+    for event in events {
+        let _ = argument(event);
+        run_event(&mut heap, &mut stack, event);
+    }
+    Ok(Closed::of(heap))
 }
