@@ -1,15 +1,14 @@
 -- How a row is begun.
-use Rattle.std.proofs.Common.{◌≡◌, ℕ, zero, suc, ◌<◌, ◌≤◌, ◌/◌, ◌%◌, ◌^◌, refl, sym, ap, ◌∙◌, subst, arith, Bool, true, false, not, ◌||◌, Option, Some, None, List}
+use Rattle.std.proofs.Common.{◌≡◌, ℕ, ◌≤◌, ◌/◌, refl, sym, ap, ◌∙◌, subst, arith, Bool, true, false, Some, None}
 use Rattle.std.specs.List.{list_all}
 use Rattle.std.proofs.lemmas.Bool.{true≢false}
-use Rattle.lazy_rec.specs.declared.events.Op.{Op}
 use Rattle.lazy_rec.specs.declared.events.Event.{Event}
 use Rattle.lazy_rec.specs.Named.{Records}
 use Rattle.lazy_rec.specs.Kinds.{bases, is_trim}
 use Rattle.lazy_rec.specs.History.{has_smaller_bases, is_of_its_kind}
 use Rattle.heap_store.specs.World.{World, recs}
-use Rattle.heap_store.specs.Rows.{Row, NamedRows, not_ended, op_of_number, caller_of_word, is_begun_word, event_with, row_at, words_at, word_at, store_word, is_answered, is_ended, events_of}
-use Rattle.heap_store.specs.Hand.{Hand, hand_begun}
+use Rattle.heap_store.specs.Rows.{Row, NamedRows, not_ended, op_of_number, row_at, word_at, store_word, is_answered, is_ended, events_of}
+use Rattle.heap_store.specs.Hand.{hand_begun}
 use Rattle.heap_store.specs.View.{View, IsLawfulView}
 use Rattle.heap_store.specs.RowCalls.{MayStore, Stored}
 use Rattle.heap_store.proofs.HistoryLaws.{RowWell, history_set}
@@ -56,11 +55,11 @@ module _ (v0 v1 v2 : View) (name w1 w0 : ℕ) (e : Event) (begun : Bool) (drawn 
   here0 =
       let high : name ≤ v2.about.rows = rw about_same drawn.high in
       open_is (store_word v2.seen name 0 w0) name w0 w1 e begun
-        (word-same v2.seen name 0 w0 drawn.low (law.words name drawn.low high) (omega arith))
-        (word-other v2.seen name 0 w0 1 (λ z. absurd (omega arith)) ∙ (p2.others 1 (λ z. absurd (omega arith)) ∙ p1.here))
-        (word-other v2.seen name 0 w0 2 (λ z. absurd (omega arith)) ∙ p2.here)
-        (word-other v2.seen name 0 w0 5 (λ z. absurd (omega arith)) ∙ unused 5 (λ z. absurd (omega arith)) (λ z. absurd (omega arith)))
-        bases_word first
+      (word-same v2.seen name 0 w0 drawn.low (law.words name drawn.low high) (omega arith))
+      (word-other v2.seen name 0 w0 1 (λ z. absurd (omega arith)) ∙ (p2.others 1 (λ z. absurd (omega arith)) ∙ p1.here))
+      (word-other v2.seen name 0 w0 2 (λ z. absurd (omega arith)) ∙ p2.here)
+      (word-other v2.seen name 0 w0 5 (λ z. absurd (omega arith)) ∙ unused 5 (λ z. absurd (omega arith)) (λ z. absurd (omega arith)))
+      bases_word first
 
   open_yet : (t : Row) → row_at v2.seen name ≡ Some t → is_ended t.ending ≡ false
   open_yet t z = let k : None ≡ Some t = sym no_row2 ∙ z in cc
@@ -118,7 +117,7 @@ begin_may v0 v1 v2 name w1 w0 e drawn may p1 p2 b f law =
     let rows = rows2 v0 v1 v2 name w1 w0 e true drawn p1 p2 b f law in
     let P : NamedRows → Type 0 = λ rs. RowWell (recs v2.seen) rs name (begun_row e) in
     may_store_first v0 v1 v2 name w1 w0 e true drawn p1 p2 b f law
-      (subst P (sym rows) (begun_well (recs v2.seen) (row_at v0.seen) name e may.next.trim may.next.smaller may.answered may.kinds))
+    (subst P (sym rows) (begun_well (recs v2.seen) (row_at v0.seen) name e may.next.trim may.next.smaller may.answered may.kinds))
 
 pub begin_done : (v0 v1 v2 v3 : View) (name w1 w0 : ℕ) (e : Event) → IsDrawn v0 name → WordPut v0 v1 name 1 w1 → WordPut v1 v2 name 2 e.arg → IsBasesWord w1 e.base e.other → IsFirstWord w0 0 e.op true → IsLawfulView v2 → Stored v2 v3 name 0 w0 → Begun v0 v3 name e
 begin_done v0 v1 v2 v3 name w1 w0 e drawn p1 p2 b f law s = record {

@@ -1,32 +1,26 @@
 -- The four ways in which a row ends.
-use Rattle.std.proofs.Common.{◌≡◌, ℕ, zero, suc, ◌<◌, ◌≤◌, ◌+◌, ◌*◌, ◌/◌, ◌%◌, ◌^◌, refl, sym, ap, ◌∙◌, subst, arith, eqb, leb, ltb, Bool, true, false, cond, not, ◌&&◌, ◌||◌, ⊎_elim, Option, Some, None, List, [], length}
-use Rattle.std.specs.Prelude.{option_map, slice_index_or}
-use Rattle.std.specs.List.{list_all, list_any}
-use Rattle.std.proofs.lemmas.Bool.{true≢false, cases_eq, eq-eqb, and_from, and_parts}
-use Rattle.lazy_rec.specs.declared.places.Ref.{Ref}
-use Rattle.lazy_rec.specs.declared.events.Kind.{Kind}
+use Rattle.std.proofs.Common.{◌≡◌, ℕ, ◌≤◌, ◌/◌, ◌%◌, ◌^◌, refl, sym, ap, ◌∙◌, subst, arith, true, false, not, Option, Some, List, [], length}
+use Rattle.std.proofs.lemmas.Bool.{eq-eqb, and_from}
 use Rattle.lazy_rec.specs.declared.events.Event.{Event}
 use Rattle.lazy_rec.specs.declared.events.Reply.{Reply}
 use Rattle.lazy_rec.specs.Tests.{is_some_and}
 use Rattle.lazy_rec.specs.Named.{Records, is_pending}
-use Rattle.lazy_rec.specs.Kinds.{bases, same_kind}
+use Rattle.lazy_rec.specs.Kinds.{same_kind}
 use Rattle.lazy_rec.specs.Meaning.{means}
 use Rattle.lazy_rec.specs.History.{kind_made, kind_of, list_made, plain, reply_to}
 use Rattle.heap_store.specs.declared.nodes.Node.{Node}
 use Rattle.heap_store.specs.declared.versions.Version.{Version}
 use Rattle.heap_store.specs.declared.claims.Full.{Full}
 use Rattle.heap_store.specs.World.{World, recs, holds}
-use Rattle.heap_store.specs.Rows.{Row, NamedRows, Ending, not_ended, answered, full, memory, no_base, ending_of, is_refused, row_at, words_at, word_at, store_word, reply_of_word, version_of_word, events_of, version_at, is_given_up, is_answered}
-use Rattle.heap_store.specs.Legal.{in_order, row_in_range, is_begun_well}
+use Rattle.heap_store.specs.Rows.{Row, NamedRows, answered, full, memory, ending_of, row_at, words_at, word_at, store_word, reply_of_word, events_of, version_at}
+use Rattle.heap_store.specs.Legal.{in_order, reply_in_range}
 use Rattle.heap_store.specs.Lawful.{is_root}
 use Rattle.heap_store.specs.LookedAt.{row_has_looked}
-use Rattle.heap_store.specs.Hand.{Hand}
 use Rattle.heap_store.specs.View.{View, IsLawfulView, Refusals}
-use Rattle.heap_store.specs.RowCalls.{MayStore, Stored, EndsWell, was_refused}
 use Rattle.heap_store.proofs.ShowLaws.{one_value}
 use Rattle.heap_store.proofs.HistoryLaws.{RowWell}
-use Rattle.version_book.specs.Words.{IsFirstWord, IsBasesWord, IsVersionWord}
-use Rattle.version_book.specs.Book.{IsOwn, IsDrawn, IsNextEvent, HasLostBase, WordPut, RowSet, Ended, IsWorking, Answers, MayEndRow, begun_row, ended_row, skipped_row}
+use Rattle.version_book.specs.Words.{IsVersionWord}
+use Rattle.version_book.specs.Book.{WordPut, Ended, IsWorking, Answers, MayEndRow, begun_row, ended_row}
 use Rattle.version_book.proofs.WordLaws.{word-other, word-same}
 use Rattle.version_book.proofs.Ends.{may_end, here_ended, working_put, not_refused, is_refused_row, ended_after}
 
@@ -72,9 +66,9 @@ reply_ending : (w : World) (name w3 w4 : ℕ) (reply : Reply) (version : Version
     → ending_of name (words_at w name) ≡ answered reply version
 reply_ending w name w3 w4 reply version a b c v r n = rw (a, c, b, r, v.version_is name, ← n) refl
 
-answered_well : (v : View) (name : ℕ) (e : Event) (reply : Reply) (u : Version) → IsLawfulView v → row_at v.seen name ≡ Some (begun_row e) → Answers v.seen e reply u → RowWell (recs v.seen) (row_at v.seen) name (ended_row e (answered reply u))
-answered_well v name e reply u law here a = record {
-  range = a.in_range;
+answered_well : (v : View) (name : ℕ) (e : Event) (reply : Reply) (u : Version) → IsLawfulView v → row_at v.seen name ≡ Some (begun_row e) → reply_in_range reply ≡ true → Answers v.seen e reply u → RowWell (recs v.seen) (row_at v.seen) name (ended_row e (answered reply u))
+answered_well v name e reply u law here reply_fits a = record {
+  range = and_from _ _ reply_fits a.in_range;
   trim = law.legal.trim name _ here;
   smaller = law.legal.bases name _ here;
   begun = law.legal.begun name _ here;
@@ -99,14 +93,14 @@ module _ (v0 v1 v2 : View) (w3 w4 : ℕ) (reply : Reply) (version : Version) (k 
       (word-other v2.seen version.name 5 1 4 (λ z. absurd (omega arith)) ∙ p4.here)
       version_word reply_word refl
 
-  pub reply_may : Answers v0.seen k.event reply version → MayEndRow v2 version.name 1
-  reply_may a =
+  pub reply_may : reply_in_range reply ≡ true → Answers v0.seen k.event reply version → MayEndRow v2 version.name 1
+  reply_may reply_fits a =
       let b = answers_put v1 v2 version.name 4 w4 p4 k.event reply version (answers_put v0 v1 version.name 3 w3 p3 k.event reply version a) in
       may_end v2 version.name 1 false law working2 (omega arith) (omega arith) (answered reply version) reply_end
-        (record { idle = working2.own.claims; full_where = sym (not_refused v2.hand version.name working2.open_row); numbers = λ d n z. cc })
-        (answered_well v2 version.name k.event reply version law working2.here b)
-        (λ u z. (let same = one_value version u z in rw (← same) b.root))
-        (λ told u z. (let f = told_is z in rw f b.looked))
+      (record { idle = working2.own.claims; full_where = sym (not_refused v2.hand version.name working2.open_row); numbers = λ d n z. cc })
+      (answered_well v2 version.name k.event reply version law working2.here reply_fits b)
+      (λ u z. (let same = one_value version u z in rw (← same) b.root))
+      (λ told u z. (let f = told_is z in rw f b.looked))
     where
       told_is : {told : Reply} {t : Version} → answered reply version ≡ answered told t → told ≡ reply
       told_is {told} {t} z = sym (cc)
@@ -121,15 +115,25 @@ module _ (v0 v1 v2 : View) (w3 w4 : ℕ) (reply : Reply) (version : Version) (k 
 refused_well : (v : View) (name : ℕ) (e : Event) (drawn wanted : ℕ) → IsLawfulView v → row_at v.seen name ≡ Some (begun_row e) → drawn ≤ 260000000 → 1 ≤ wanted → RowWell (recs v.seen) (row_at v.seen) name (ended_row e (full drawn wanted))
 refused_well v name e drawn wanted law here few some = record {
   range = grind arith;
-  trim = law.legal.trim name _ here; smaller = law.legal.bases name _ here; begun = law.legal.begun name _ here; kind = law.legal.kinds name _ here;
-  version = λ t z. cc; reply = λ told t z. cc; meaning = λ t z. cc;
+  trim = law.legal.trim name _ here;
+  smaller = law.legal.bases name _ here;
+  begun = law.legal.begun name _ here;
+  kind = law.legal.kinds name _ here;
+  version = λ t z. cc;
+  reply = λ told t z. cc;
+  meaning = λ t z. cc;
 }
 
 memory_well : (v : View) (name : ℕ) (e : Event) → IsLawfulView v → row_at v.seen name ≡ Some (begun_row e) → RowWell (recs v.seen) (row_at v.seen) name (ended_row e memory)
 memory_well v name e law here = record {
   range = refl;
-  trim = law.legal.trim name _ here; smaller = law.legal.bases name _ here; begun = law.legal.begun name _ here; kind = law.legal.kinds name _ here;
-  version = λ t z. cc; reply = λ told t z. cc; meaning = λ t z. cc;
+  trim = law.legal.trim name _ here;
+  smaller = law.legal.bases name _ here;
+  begun = law.legal.begun name _ here;
+  kind = law.legal.kinds name _ here;
+  version = λ t z. cc;
+  reply = λ told t z. cc;
+  meaning = λ t z. cc;
 }
 
 module _ (v0 v1 : View) (name w4 : ℕ) (refusal : Full) (k : IsWorking v0 name true) (p4 : WordPut v0 v1 name 4 w4) (drawn : w4 % 2 ^ 32 ≡ refusal.drawn) (wanted : w4 / 2 ^ 32 ≡ refusal.wanted)

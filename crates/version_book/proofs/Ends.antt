@@ -1,33 +1,30 @@
 -- How a row is ended.
-use Rattle.std.proofs.Common.{◌≡◌, ℕ, zero, suc, ◌<◌, ◌≤◌, ◌/◌, ◌%◌, ◌^◌, refl, sym, ap, ◌∙◌, subst, arith, eqb, ltb, Bool, true, false, cond, not, ◌&&◌, ◌||◌, ⊎_elim, Option, Some, None, List, length}
-use Rattle.std.specs.Prelude.{option_map, slice_index_or}
-use Rattle.std.specs.List.{list_all, list_any}
-use Rattle.std.proofs.lemmas.Bool.{true≢false, cases_eq, eq-eqb}
+use Rattle.std.proofs.Common.{◌≡◌, ℕ, ◌≤◌, ◌/◌, refl, sym, ap, ◌∙◌, arith, eqb, Bool, true, false, cond, ◌&&◌, Option, Some, None, List}
+use Rattle.std.specs.Prelude.{option_map}
+use Rattle.std.specs.List.{list_all}
+use Rattle.std.proofs.lemmas.Bool.{true≢false, eq-eqb}
 use Rattle.lazy_rec.specs.declared.events.Op.{Op}
 use Rattle.lazy_rec.specs.declared.events.Event.{Event}
 use Rattle.lazy_rec.specs.declared.events.Reply.{Reply}
 use Rattle.lazy_rec.specs.Tests.{is_some_and}
 use Rattle.lazy_rec.specs.Named.{Records}
-use Rattle.lazy_rec.specs.Kinds.{bases, is_trim}
-use Rattle.lazy_rec.specs.History.{has_smaller_bases}
+use Rattle.lazy_rec.specs.Kinds.{bases}
 use Rattle.heap_store.specs.declared.versions.Version.{Version}
-use Rattle.heap_store.specs.declared.claims.Full.{Full}
 use Rattle.heap_store.specs.declared.claims.OpenRow.{OpenRow}
 use Rattle.heap_store.specs.World.{World, recs, holds}
-use Rattle.heap_store.specs.Rows.{Row, NamedRows, Ending, not_ended, answered, full, memory, no_base, version_of, is_ended, is_full, is_refused, op_of_number, caller_of_word, is_begun_word, event_with, ending_of, row_with, row_of, row_at, word, words_at, word_at, store_word, is_answered, is_given_up, version_at}
+use Rattle.heap_store.specs.Rows.{Row, NamedRows, Ending, not_ended, answered, full, memory, no_base, version_of, is_ended, op_of_number, caller_of_word, is_begun_word, event_with, ending_of, row_with, row_of, row_at, word, words_at, word_at, store_word, is_answered, version_at}
 use Rattle.heap_store.specs.Legal.{IsHistory, is_begun_well, row_in_range}
 use Rattle.heap_store.specs.Lawful.{is_root}
 use Rattle.heap_store.specs.LookedAt.{row_has_looked}
 use Rattle.heap_store.specs.Hand.{Hand, hand_ended}
-use Rattle.heap_store.specs.View.{View, IsLawfulView, Refusals}
-use Rattle.heap_store.specs.RowCalls.{MayStore, Stored, EndsWell, was_refused, begins, ends}
+use Rattle.heap_store.specs.View.{View, IsLawfulView}
+use Rattle.heap_store.specs.RowCalls.{MayStore, Stored, EndsWell, was_refused}
 use Rattle.heap_store.proofs.ShowLaws.{one_value}
 use Rattle.heap_store.proofs.HistoryLaws.{RowWell, history_set}
-use Rattle.version_book.specs.Words.{IsFirstWord, IsBasesWord, IsVersionWord}
-use Rattle.version_book.specs.Book.{IsOwn, IsDrawn, IsNextEvent, HasLostBase, WordPut, RowSet, Ended, IsWorking, Answers, MayEndRow, begun_row, ended_row, skipped_row}
-use Rattle.version_book.proofs.WordLaws.{word-other, word-same, whole-row, row-other, nodes-store}
+use Rattle.version_book.specs.Book.{WordPut, Ended, IsWorking, MayEndRow, begun_row, ended_row}
+use Rattle.version_book.proofs.WordLaws.{word-other, whole-row, row-other, nodes-store}
 use Rattle.version_book.proofs.Setting.{roots_set, legal-store, roots-stored}
-use Rattle.version_book.proofs.Puts.{no_plan, no_caller, stored_hand}
+use Rattle.version_book.proofs.Puts.{no_plan}
 
 -- ---- the end word
 
@@ -117,18 +114,46 @@ ended_well : (rs : Records) (rows : NamedRows) (name : ℕ) (e : Event) → IsHi
     → ((reply : Reply) (v : Version) → ending ≡ answered reply v → RowWell rs rows name (ended_row e (answered reply v)))
     → RowWell rs rows name (ended_row e ending)
 ended_well rs rows name e legal here not_ended range begun told = record {
-  range = range; trim = legal.trim name _ here; smaller = legal.bases name _ here; begun = begun; kind = legal.kinds name _ here;
-  version = λ v z. cc; reply = λ t v z. cc; meaning = λ v z. cc; }
+  range = range;
+  trim = legal.trim name _ here;
+  smaller = legal.bases name _ here;
+  begun = begun;
+  kind = legal.kinds name _ here;
+  version = λ v z. cc;
+  reply = λ t v z. cc;
+  meaning = λ v z. cc;
+}
 ended_well rs rows name e legal here (answered reply v) range begun told = told reply v refl
 ended_well rs rows name e legal here (full d k) range begun told = record {
-  range = range; trim = legal.trim name _ here; smaller = legal.bases name _ here; begun = begun; kind = legal.kinds name _ here;
-  version = λ v z. cc; reply = λ t v z. cc; meaning = λ v z. cc; }
+  range = range;
+  trim = legal.trim name _ here;
+  smaller = legal.bases name _ here;
+  begun = begun;
+  kind = legal.kinds name _ here;
+  version = λ v z. cc;
+  reply = λ t v z. cc;
+  meaning = λ v z. cc;
+}
 ended_well rs rows name e legal here memory range begun told = record {
-  range = range; trim = legal.trim name _ here; smaller = legal.bases name _ here; begun = begun; kind = legal.kinds name _ here;
-  version = λ v z. cc; reply = λ t v z. cc; meaning = λ v z. cc; }
+  range = range;
+  trim = legal.trim name _ here;
+  smaller = legal.bases name _ here;
+  begun = begun;
+  kind = legal.kinds name _ here;
+  version = λ v z. cc;
+  reply = λ t v z. cc;
+  meaning = λ v z. cc;
+}
 ended_well rs rows name e legal here no_base range begun told = record {
-  range = range; trim = legal.trim name _ here; smaller = legal.bases name _ here; begun = begun; kind = legal.kinds name _ here;
-  version = λ v z. cc; reply = λ t v z. cc; meaning = λ v z. cc; }
+  range = range;
+  trim = legal.trim name _ here;
+  smaller = legal.bases name _ here;
+  begun = begun;
+  kind = legal.kinds name _ here;
+  version = λ v z. cc;
+  reply = λ t v z. cc;
+  meaning = λ v z. cc;
+}
 
 -- a begun row says that the bases are answered
 known : (rows : NamedRows) (e : Event) → is_begun_well rows (begun_row e) ≡ true → list_all (is_answered rows) (bases e) ≡ true

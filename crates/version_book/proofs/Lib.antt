@@ -6,3 +6,6 @@ pub mod Begins
 pub mod Ends
 pub mod Endings
 pub mod Skips
+pub mod Works
+pub mod Events
+pub mod Books

@@ -1,17 +1,17 @@
 -- Words of a row that say nothing yet.
-use Rattle.std.proofs.Common.{◌≡◌, ℕ, zero, suc, ◌<◌, ◌≤◌, ◌/◌, ◌%◌, ◌^◌, refl, sym, ap, ◌∙◌, subst, arith, eqb, Bool, true, false, cond, ⊎_elim, inl, inr, ◌⊎◌, Option, Some, None, List, length}
+use Rattle.std.proofs.Common.{◌≡◌, ℕ, zero, suc, ◌≤◌, ◌/◌, refl, sym, ap, ◌∙◌, arith, eqb, Bool, true, false, cond, ⊎_elim, Option, Some, None, List}
 use Rattle.std.specs.Prelude.{option_map}
 use Rattle.std.proofs.lemmas.Bool.{true≢false}
 use Rattle.lazy_rec.specs.declared.events.Op.{Op}
 use Rattle.lazy_rec.specs.declared.events.Event.{Event}
-use Rattle.heap_store.specs.World.{World, recs}
-use Rattle.heap_store.specs.Rows.{Row, op_of_number, row_with, row_of, row_at, word, words_at, word_at, store_word}
-use Rattle.heap_store.specs.Hand.{Hand, contains, hand_begun, hand_ended}
-use Rattle.heap_store.specs.View.{View, About, IsLawfulView}
+use Rattle.heap_store.specs.World.{World}
+use Rattle.heap_store.specs.Rows.{op_of_number, row_with, row_of, row_at, word, words_at, word_at, store_word}
+use Rattle.heap_store.specs.Hand.{Hand, hand_begun, hand_ended}
+use Rattle.heap_store.specs.View.{View, IsLawfulView}
 use Rattle.heap_store.specs.RowCalls.{MayStore, Stored, begins, ends, hand_stored}
 use Rattle.version_book.specs.Book.{IsOwn, MayPut, WordPut}
 use Rattle.std.proofs.lemmas.Bool.{cases_lt}
-use Rattle.version_book.proofs.WordLaws.{word-other, word-same, no-row, nodes-store}
+use Rattle.version_book.proofs.WordLaws.{word-other, no-row, nodes-store}
 use Rattle.version_book.proofs.Setting.{rows-same, legal-store, roots-stored}
 
 -- words without an end word show the same row where their first three are the same
@@ -27,7 +27,7 @@ put_same : (v : View) (name i value : ℕ) → MayPut v name i value → row_at 
 put_same v name i value m = ⊎_elim
     (λ l. no-row (store_word v.seen name i value) name (word-other v.seen name i value 0 (λ e. absurd (omega (arith, m.from))) ∙ m.first l) ∙ sym (no-row v.seen name (m.first l)))
     (λ l. row-three name (words_at (store_word v.seen name i value) name) (words_at v.seen name) (word-other v.seen name i value 0 (λ e. absurd (omega (arith, m.from)))) (word-other v.seen name i value 1 (λ e. absurd (omega arith))) (word-other v.seen name i value 2 (λ e. absurd (omega arith)))
-        (word-other v.seen name i value 5 (λ e. absurd (omega (arith, m.to))) ∙ m.end_word) m.end_word)
+    (word-other v.seen name i value 5 (λ e. absurd (omega (arith, m.to))) ∙ m.end_word) m.end_word)
     (cases_lt i 3)
 
 begins_not : (i value : ℕ) → 1 ≤ i → begins i value ≡ false

@@ -1,5 +1,5 @@
 -- One row set over the same places: the rows stay a legal history, and what they say of roots and of places looked at.
-use Rattle.std.proofs.Common.{◌≡◌, ℕ, zero, suc, ◌<◌, ◌≤◌, refl, sym, ap, ◌∙◌, subst, arith, Bool, true, false, not, ◌&&◌, ◌||◌, ⊎_elim, Option, Some, None, List, [], ◌∷◌}
+use Rattle.std.proofs.Common.{◌≡◌, ℕ, refl, sym, ap, ◌∙◌, subst, Bool, true, false, ⊎_elim, Option, Some, None}
 use Rattle.std.proofs.lemmas.Bool.{true≢false, cases_eq}
 use mathlib.Core.Path.{fun_ext}
 use Rattle.lazy_rec.specs.declared.events.Op.{Op}
@@ -51,8 +51,8 @@ module _ (w : World) (rows rows' : NamedRows) (legal : IsHistory (recs w) rows) 
           let base = has_version rows t.event.base (base_known (recs w) rows rows' legal n r open_yet here others well t v b (ap version_of f) u) in
           let old : has_looked w t.event.op told base.0.root.0 (size_of (version_at rows t.event.other)) ≡ true = rw base.1 at h in
           let same : uses_other t.event.op ≡ true → size_of (version_at rows t.event.other) ≡ size_of (version_at rows' t.event.other) = λ k.
-              (let other = has_version rows t.event.other (other_known (recs w) rows rows' legal n r open_yet here others well t v b (ap version_of f) k) in
-              ap size_of (other.1 ∙ sym (version_up rows rows' keeps t.event.other other.0 other.1))) in
+          (let other = has_version rows t.event.other (other_known (recs w) rows rows' legal n r open_yet here others well t v b (ap version_of f) k) in
+          ap size_of (other.1 ∙ sym (version_up rows rows' keeps t.event.other other.0 other.1))) in
           rw (version_up rows rows' keeps t.event.base base.0 base.1) (sym (looked_other w t.event.op told base.0.root.0 _ _ same) ∙ old)
 
   pub roots_set : RootsOf w rows → ((v : Version) → version_of r.ending ≡ Some v → holds (recs w) v.root.0 (is_root (recs w) v.kind v.root.0) ≡ true)
@@ -63,7 +63,7 @@ module _ (w : World) (rows rows' : NamedRows) (legal : IsHistory (recs w) rows) 
         (λ ne. old.roots i t (sym (others i ne) ∙ e)) (cases_eq i n);
     looked = λ i t e told v f. ⊎_elim
         (λ eq. (let same : t ≡ r = one_value t r (sym e ∙ ap rows' eq ∙ here) in
-            rw same (looked_up r told v (sym (ap (λ (z : Row). z.ending) same) ∙ f) well.begun (looked told v (sym (ap (λ (z : Row). z.ending) same) ∙ f)))))
+        rw same (looked_up r told v (sym (ap (λ (z : Row). z.ending) same) ∙ f) well.begun (looked told v (sym (ap (λ (z : Row). z.ending) same) ∙ f)))))
         (λ ne. (let was = sym (others i ne) ∙ e in looked_up t told v f (legal.begun i t was) (old.looked i t was told v f))) (cases_eq i n);
   }
 

@@ -1,16 +1,15 @@
 -- How the row of an event without a base is stored.
-use Rattle.std.proofs.Common.{◌≡◌, ℕ, zero, suc, ◌<◌, ◌≤◌, refl, sym, ap, ◌∙◌, subst, arith, eqb, Bool, true, false, cond, not, ◌&&◌, ◌||◌, ⊎_elim, Option, Some, None, List, [], ◌∷◌}
-use Rattle.std.specs.List.{list_all, list_any}
+use Rattle.std.proofs.Common.{◌≡◌, ℕ, ◌≤◌, refl, sym, ap, ◌∙◌, arith, Bool, true, false, ⊎_elim, Some, None, List, [], ◌∷◌}
+use Rattle.std.specs.List.{list_any}
 use Rattle.std.proofs.lemmas.Bool.{true≢false, cases_eq, or_cases, or_left, or_right}
 use Rattle.lazy_rec.specs.declared.events.Event.{Event}
 use Rattle.lazy_rec.specs.Tests.{is_some_and}
-use Rattle.lazy_rec.specs.Named.{Records}
 use Rattle.lazy_rec.specs.Kinds.{bases}
-use Rattle.heap_store.specs.World.{World, recs}
-use Rattle.heap_store.specs.Rows.{Row, NamedRows, not_ended, no_base, ending_of, is_ended, is_refused, is_begun_word, row_at, words_at, word_at, store_word, is_given_up}
-use Rattle.heap_store.specs.Hand.{Hand, hand_ended}
-use Rattle.heap_store.specs.View.{View, About, IsLawfulView}
-use Rattle.heap_store.specs.RowCalls.{MayStore, Stored, EndsWell}
+use Rattle.heap_store.specs.World.{recs}
+use Rattle.heap_store.specs.Rows.{Row, NamedRows, not_ended, no_base, ending_of, is_ended, is_refused, row_at, words_at, word_at, store_word, is_given_up}
+use Rattle.heap_store.specs.Hand.{hand_ended}
+use Rattle.heap_store.specs.View.{View, IsLawfulView}
+use Rattle.heap_store.specs.RowCalls.{MayStore, Stored}
 use Rattle.heap_store.proofs.ShowLaws.{one_value}
 use Rattle.heap_store.proofs.HistoryLaws.{RowWell, history_set}
 use Rattle.version_book.specs.Words.{IsFirstWord, IsBasesWord}
@@ -18,7 +17,7 @@ use Rattle.version_book.specs.Book.{IsOwn, IsDrawn, IsNextEvent, HasLostBase, Wo
 use Rattle.version_book.proofs.WordLaws.{word-other, word-same, row-other}
 use Rattle.version_book.proofs.Setting.{roots_set, legal-store, roots-stored}
 use Rattle.version_book.proofs.Puts.{stored_hand}
-use Rattle.version_book.proofs.Begins.{own2, no_row2, rows2, may_store_first, row_set_first, end_word_first}
+use Rattle.version_book.proofs.Begins.{own2, no_row2, rows2, may_store_first, row_set_first}
 use Rattle.version_book.proofs.Ends.{ended_is}
 
 unended : Event → Row
@@ -32,8 +31,14 @@ module _ (v0 v1 v2 : View) (name w1 w0 : ℕ) (e : Event) (drawn : IsDrawn v0 na
     (bases_word : IsBasesWord w1 e.base e.other) (first : IsFirstWord w0 0 e.op false) (law2 : IsLawfulView v2) where
   pub skip_may : MayStore v2 name 0 w0
   skip_may = may_store_first v0 v1 v2 name w1 w0 e false drawn p1 p2 bases_word first law2 (record {
-    range = refl; trim = next.trim; smaller = next.smaller; begun = refl; kind = refl;
-    version = λ v z. cc; reply = λ told v z. cc; meaning = λ v z. cc;
+    range = refl;
+    trim = next.trim;
+    smaller = next.smaller;
+    begun = refl;
+    kind = refl;
+    version = λ v z. cc;
+    reply = λ told v z. cc;
+    meaning = λ v z. cc;
   })
 
   module _ (v3 : View) (s : Stored v2 v3 name 0 w0) (law3 : IsLawfulView v3) where
@@ -55,7 +60,7 @@ module _ (v0 v1 v2 : View) (name w1 w0 : ℕ) (e : Event) (drawn : IsDrawn v0 na
     given_up3 : (i : ℕ) → is_given_up (row_at v0.seen) i ≡ true → is_given_up (row_at v3.seen) i ≡ true
     given_up3 i h = ⊎_elim
         (λ eq. (let none : row_at v0.seen name ≡ None = sym (ap (λ (rs : NamedRows). rs name) (rows2 v0 v1 v2 name w1 w0 e false drawn p1 p2 bases_word first law2)) ∙ no_row2 v0 v1 v2 name w1 w0 e false drawn p1 p2 bases_word first law2 in
-            let z : false ≡ true = sym (ap (is_some_and (λ (r : Row). is_refused r.ending)) (ap (row_at v0.seen) eq ∙ none)) ∙ h in absurd (true≢false (sym z))))
+        let z : false ≡ true = sym (ap (is_some_and (λ (r : Row). is_refused r.ending)) (ap (row_at v0.seen) eq ∙ none)) ∙ h in absurd (true≢false (sym z))))
         (λ ne. ap (is_some_and (λ (r : Row). is_refused r.ending)) (set3.others i ne) ∙ h) (cases_eq i name)
 
     skip_end : ending_of name (words_at (store_word v3.seen name 5 4) name) ≡ no_base
@@ -72,9 +77,14 @@ module _ (v0 v1 v2 : View) (name w1 w0 : ℕ) (e : Event) (drawn : IsDrawn v0 na
 
     skipped_well : HasLostBase v0 e → RowWell (recs v3.seen) (row_at v3.seen) name (skipped_row e)
     skipped_well lost = record {
-      range = refl; trim = next.trim; smaller = next.smaller;
+      range = refl;
+      trim = next.trim;
+      smaller = next.smaller;
       begun = any_up (is_given_up (row_at v0.seen)) (is_given_up (row_at v3.seen)) (bases e) given_up3 lost;
-      kind = refl; version = λ v z. cc; reply = λ told v z. cc; meaning = λ v z. cc;
+      kind = refl;
+      version = λ v z. cc;
+      reply = λ told v z. cc;
+      meaning = λ v z. cc;
     }
 
     pub skip_may_end : HasLostBase v0 e → MayEndRow v3 name 4

@@ -1,15 +1,14 @@
 -- What storing one word of a row changes.
-use Rattle.std.proofs.Common.{◌≡◌, ℕ, zero, suc, ◌<◌, ◌≤◌, refl, sym, ap, ◌∙◌, arith, Bool, true, false, ⊎_elim, inl, inr, Option, Some, None, List, [], ◌∷◌, length}
-use Rattle.std.specs.Prelude.{slice_set, slice_index, slice_index_or}
+use Rattle.std.proofs.Common.{◌≡◌, ℕ, zero, suc, ◌<◌, ◌≤◌, refl, sym, ap, ◌∙◌, arith, false, ⊎_elim, Some, None, List, [], length}
+use Rattle.std.specs.Prelude.{slice_set, slice_index_or}
 use Rattle.std.proofs.lemmas.List.{get_or-set_same, get_or-set_other, get_or_past, length-set}
 use Rattle.std.proofs.lemmas.Bool.{cases_lt}
-use Rattle.lazy_rec.specs.Named.{Records}
 use Rattle.heap_store.specs.World.{World, recs}
 use Rattle.std.proofs.Common.{eqb, ◌/◌, ◌-◌, get_or}
 use Rattle.std.proofs.lemmas.Option.{slice_get-get_or}
 use Rattle.heap_store.proofs.ShowLaws.{one_value}
 use Rattle.lazy_rec.specs.declared.events.Op.{Op}
-use Rattle.heap_store.specs.Rows.{Row, NamedRows, not_ended, op_of_number, caller_of_word, is_begun_word, event_with, row_with, row_of, row_at, word, words_at, word_at, store_word}
+use Rattle.heap_store.specs.Rows.{NamedRows, not_ended, op_of_number, caller_of_word, is_begun_word, event_with, row_with, row_of, row_at, word, words_at, word_at, store_word}
 use Rattle.heap_store.specs.LookedAt.{RootsOf}
 
 -- other rows keep their words

@@ -1,22 +1,19 @@
 -- How a book's rows change while events run on a heap that no other hand works on.
-use Rattle.std.specs.Prelude.{◌≡◌, ℕ, ◌+◌, ◌<◌, ◌≤◌, Bool, true, false, not, ltb, ◌&&◌, Option, Some, None, List, [], length}
+use Rattle.std.specs.Prelude.{◌≡◌, ℕ, ◌<◌, ◌≤◌, Bool, true, false, not, ltb, Some, None, [], length}
 use Rattle.std.specs.List.{list_all, list_any}
 use Rattle.lazy_rec.specs.declared.events.Event.{Event}
 use Rattle.lazy_rec.specs.declared.events.Reply.{Reply}
 use Rattle.lazy_rec.specs.Kinds.{bases, is_trim, same_kind}
 use Rattle.lazy_rec.specs.History.{has_smaller_bases, is_of_its_kind, kind_made, kind_of, list_made, plain, reply_to}
-use Rattle.heap_store.specs.declared.claims.Full.{Full}
-use Rattle.heap_store.specs.declared.claims.OpenRow.{OpenRow}
 use Rattle.heap_store.specs.declared.versions.Version.{Version}
 use Rattle.lazy_rec.specs.Tests.{is_some_and}
 use Rattle.lazy_rec.specs.Named.{is_pending}
 use Rattle.lazy_rec.specs.Meaning.{means}
 use Rattle.heap_store.specs.World.{World, recs, holds}
-use Rattle.heap_store.specs.Growth.{Grows}
-use Rattle.heap_store.specs.Rows.{Row, Ending, not_ended, answered, full, memory, no_base, row_at, word_at, store_word, version_at, is_answered, is_given_up, events_of}
-use Rattle.heap_store.specs.Hand.{Hand, contains, hand_begun, hand_ended}
+use Rattle.heap_store.specs.Rows.{Row, Ending, not_ended, no_base, row_at, word_at, store_word, version_at, is_answered, is_given_up, events_of}
+use Rattle.heap_store.specs.Hand.{contains, hand_begun, hand_ended}
 use Rattle.heap_store.specs.RowCalls.{is_word_value, EndsWell}
-use Rattle.heap_store.specs.Legal.{IsLegal, in_order, reply_in_range}
+use Rattle.heap_store.specs.Legal.{IsLegal, in_order}
 use Rattle.heap_store.specs.Lawful.{is_root}
 use Rattle.heap_store.specs.LookedAt.{HasRoots, row_has_looked}
 use Rattle.heap_store.specs.View.{View}
@@ -95,7 +92,7 @@ pub record IsWorking (v : View) (name : ℕ) (refused : Bool) : Type 0 where
 
 -- the reply and the version are those of the event on the plain lists of its bases, and the base was looked at
 pub record Answers (w : World) (e : Event) (reply : Reply) (v : Version) : Type 0 where
-  pub in_range : (reply_in_range reply && ltb v.size 2147483648) ≡ true
+  pub in_range : ltb v.size 2147483648 ≡ true
   pub kind : is_some_and (same_kind v.kind) (kind_made (kind_of (events_of (row_at w))) (Some e)) ≡ true
   pub size : v.size ≡ length (list_made (plain (events_of (row_at w))) (Some e))
   pub value : holds (recs w) v.root.0 (λ r. not (is_pending r)) ≡ true

@@ -1,16 +1,17 @@
 -- Closed books, and what their rows and nodes tell.
-use Rattle.std.specs.Prelude.{◌≡◌, ℕ, ◌+◌, ◌<◌, ◌≤◌, Bool, true, Option, Some, None, List, length, option_map}
+use Rattle.std.specs.Prelude.{◌≡◌, ℕ, ◌+◌, ◌<◌, ◌≤◌, true, Option, Some, None, List, length, option_map}
 use Rattle.lazy_rec.specs.declared.records.Rec.{Rec}
 use Rattle.lazy_rec.specs.declared.states.SuspState.{SuspState}
 use Rattle.lazy_rec.specs.declared.events.Event.{Event}
 use Rattle.lazy_rec.specs.History.{event_of, kind_of}
 use Rattle.lazy_rec.specs.declared.events.Kind.TheVariants.{Bankq}
 use Rattle.heap_store.specs.declared.nodes.Node.{Node}
-use Rattle.heap_store.specs.World.{World, recs}
-use Rattle.heap_store.specs.Rows.{Row, Ending, not_ended, answered, full, memory, no_base, word, words_at, row_of, row_at, is_ended, is_ended_at}
+use Rattle.heap_store.specs.World.{World}
+use Rattle.heap_store.specs.Rows.{Row, Ending, not_ended, answered, full, memory, no_base, word, words_at, row_of, row_at, is_ended}
 use Rattle.heap_store.specs.Legal.{IsLegal, row_in_range}
 use Rattle.heap_store.specs.Lawful.{IsLawful}
 use Rattle.heap_store.specs.LookedAt.{HasRoots}
+use Rattle.heap_store.specs.View.{View}
 use Rattle.version_book.specs.declared.rows.Ended.{Ended}
 use Rattle.version_book.specs.declared.rows.Ended.TheVariants as ends
 use Rattle.version_book.specs.declared.rows.Row.{Row as ToldRow}
@@ -53,6 +54,11 @@ pub record IsClosed (w : World) : Type 0 where
   pub legal : IsLegal w
   pub roots : HasRoots w
   pub readable : (i : ℕ) → 1 ≤ i → i ≤ length w.rows → IsReadable i (words_at w i)
+
+-- a store whose rows are all drawn and have ended
+pub record IsWhole (v : View) : Type 0 where
+  pub closed : IsClosed v.seen
+  pub named : length v.seen.rows ≤ v.named
 
 -- a book in which these events were run in order by one caller, in a store of so many places
 pub record IsBook (w : World) (capacity : ℕ) (events : List Event) : Type 0 where

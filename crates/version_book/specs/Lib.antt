@@ -1,3 +1,4 @@
 pub mod Words
 pub mod Book
 pub mod Closed
+pub mod Running

@@ -1,10 +1,9 @@
 -- What the words of a row are to show.
-use Rattle.std.specs.Prelude.{◌≡◌, ℕ, ◌*◌, ◌/◌, ◌%◌, ◌^◌, ◌<◌, ◌≤◌, Bool, true, Some}
+use Rattle.std.specs.Prelude.{◌≡◌, ℕ, ◌/◌, ◌%◌, ◌^◌, ◌≤◌, Bool, true, Some}
 use Rattle.lazy_rec.specs.declared.places.Ref.{Ref}
 use Rattle.lazy_rec.specs.declared.events.Kind.{Kind}
 use Rattle.lazy_rec.specs.declared.events.Op.{Op}
-use Rattle.lazy_rec.specs.declared.events.Event.{Event}
-use Rattle.heap_store.specs.Rows.{op_of_number, is_begun_word, caller_of_word, version_of_word, version_with}
+use Rattle.heap_store.specs.Rows.{op_of_number, is_begun_word, caller_of_word, version_of_word}
 use Rattle.heap_store.specs.RowCalls.{is_word_value}
 
 -- word 0 of a row with this caller and this operation, begun or skipped

@@ -1,10 +1,11 @@
 //! Closed books: the rows of all events and the nodes that were published.
-ghost use Rattle.std.specs.Prelude.{◌≡◌, ◌+◌, ◌-◌, ◌*◌, ◌/◌, ◌%◌, ◌^◌, ◌<◌, ◌≤◌, Some, length};
+ghost use Rattle.std.specs.Prelude.{◌≡◌, ◌≤◌, Some, length};
 ghost use Rattle.heap_store.specs.World.{node_at};
-ghost use Rattle.version_book.specs.Closed.{row_told, node_told};
+ghost use Rattle.heap_store.specs.Opened.{view_of};
+ghost use Rattle.version_book.specs.Closed.{IsWhole, row_told, node_told};
 
 use crate::rows::{self, Row};
-use heap_store::Node;
+use heap_store::PlainHeap;
 use lazy_rec::{Rec, Ref, SuspState};
 use std::marker::Model;
 
@@ -12,27 +13,35 @@ use std::marker::Model;
 /// lawful, its rows are a legal history, and each row has ended.
 #[derive(Drop)]
 pub struct Closed {
-    nodes: Vec<Option<Node>>,
-    rows: Vec<[u64; 6]>,
+    heap: PlainHeap,
 }
 
 impl Model for Closed {
     ghost use Rattle.heap_store.specs.World.{World};
-    ghost use Rattle.version_book.specs.Closed.{IsClosed};
+    ghost use Rattle.heap_store.specs.Opened.{view_of};
+    ghost use Rattle.version_book.specs.Closed.{IsWhole};
 
     ghost Value = { World };
 
-    ghost view = { λ c. record { nodes = c.nodes.items; rows = c.rows.items } };
+    ghost view = { λ c. (view_of c.heap).seen };
 
-    ghost invariant = { λ c. IsClosed (record { nodes = c.nodes.items; rows = c.rows.items }) };
+    ghost invariant = { λ c. IsWhole (view_of c.heap) };
 }
 
 impl Closed {
+    /// The book of a store whose rows have all ended.
+    pub(crate) fn of(heap: PlainHeap) -> Closed
+        requires { IsWhole (view_of heap) }
+        ensures { result ≡ (view_of heap).seen }
+    {
+        Closed { heap }
+    }
+
     /// How many rows it has: one for each event, by names from 1 on.
     pub fn rows(&self) -> usize
         ensures { result ≡ length self.now.rows }
     {
-        self.rows.len()
+        self.heap.row_count() as usize
     }
 
     /// The row of a name.
@@ -41,16 +50,16 @@ impl Closed {
         requires high { name ≤ length self.now.rows }
         ensures { row_told self.now name ≡ Some result }
     {
-        rows::row_of(name, &self.rows[name as usize - 1])
+        rows::row_of(name, self.heap.words(name))
     }
 
     /// The record and the state of a place, where it is published.
     pub fn node(&self, place: Ref) -> Option<(Rec, SuspState)>
         ensures { result ≡ node_told (node_at self.now place.0) }
     {
-        match self.nodes.get(place.0 as usize) {
-            Some(Some(node)) => Some((node.rec, node.state)),
-            _ => None,
+        match self.heap.node(place) {
+            Some(node) => Some((node.rec, node.state)),
+            None => None,
         }
     }
 }

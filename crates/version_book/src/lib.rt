@@ -2,6 +2,7 @@
 #![tactic(auto)]
 
 pub mod closed;
+pub mod event_work;
 mod row_steps;
 pub mod rows;
 pub mod solo;

@@ -5,7 +5,9 @@ ghost use Rattle.heap_store.specs.Rows.{Row, row_at, store_word};
 ghost use Rattle.heap_store.specs.Rows.Ending.{answered, full, memory};
 ghost use Rattle.version_book.specs.Book.{MayPut, WordPut, IsDrawn, IsNextEvent, MayBegin, Begun, MayEndRow, Ended, IsWorking, Answers, begun_row, ended_row, skipped_row, HasLostBase};
 
-use crate::words::{FULL, MEMORY, NO_BASE, REPLIED, bases_word, first_word, full_word, reply_word, version_word};
+use crate::words::{
+    FULL, MEMORY, NO_BASE, REPLIED, bases_word, first_word, full_word, reply_word, version_word,
+};
 use heap_store::{Full, Heap, Rows, Version};
 use lazy_rec::{Event, Reply};
 
@@ -44,7 +46,12 @@ pub(crate) fn end_with_reply<R: Rows>(heap: &mut R, reply: Reply, version: Versi
     ensures { (e : Event) → row_at (R.view heap.old).seen version.name ≡ Some (begun_row e) → Ended (R.view heap.old) (R.view heap.new) version.name (ended_row e (answered reply version)) }
 {
     let name = version.name;
-    put_word(heap, name, 3, version_word(version.root, version.kind, version.size));
+    put_word(
+        heap,
+        name,
+        3,
+        version_word(version.root, version.kind, version.size),
+    );
     put_word(heap, name, 4, reply_word(reply));
     end_row(heap, name, REPLIED);
 }

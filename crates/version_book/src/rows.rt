@@ -5,7 +5,6 @@ ghost use Rattle.heap_store.specs.Legal.{ending_in_range};
 ghost use Rattle.version_book.specs.Closed.{ended_told, told_of, IsReadable};
 
 use crate::words::{FULL, MEMORY, REPLIED, op_of, reply_of, version_of};
-
 use heap_store::Version;
 use lazy_rec::{Event, Reply};
 

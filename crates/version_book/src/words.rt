@@ -163,6 +163,7 @@ pub fn version_word(root: Ref, kind: Kind, size: u32) -> u64
 /// Word 4 of a row that ended with a reply.
 pub fn reply_word(reply: Reply) -> u64
     ensures reply { reply_of_word result ≡ reply }
+    ensures range { reply_in_range reply ≡ true }
     ensures fits { is_word_value 4 result ≡ true }
 {
     match reply {

@@ -1,4 +1,3 @@
-use Rattle.std.proofs.Common.{arith}
 use Rattle.version_book.proofs.Tables.{kind_number_low, op_number_low, kind_op_is, plain_op_is}
 use Rattle.version_book.proofs.words.op_of.Goals as goal
 
