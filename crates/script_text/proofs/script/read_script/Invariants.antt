@@ -1,0 +1,15 @@
+use Rattle.std.proofs.Common.{◌≡◌, ◌+◌, ◌≤◌, length}
+use Rattle.script_text.specs.Lines.{lines_of}
+use Rattle.script_text.specs.Text.{body, event_lines}
+use Rattle.script_text.proofs.SoFar.{Reads}
+use Rattle.script_text.proofs.script.read_script.Given as goal
+
+abbrev pub invariant-loop-line : goal.invariant-loop-line
+invariant-loop-line l =
+    record {
+      number : l.number + length l.rest ≤ 1 + length l.fn.bytes;
+      reads : Reads (body l.fn.bytes) (event_lines (l.number + 1) (lines_of l.rest)) l.script;
+    }
+
+abbrev pub decreases-loop-line : goal.decreases-loop-line
+decreases-loop-line l = length l.rest
