@@ -1,5 +1,6 @@
 //! What runs on one thread.
-ghost use Rattle.std.specs.Prelude.{◌≡◌, ◌≢◌, ◌↔◌, ◌<◌, ℕ, List, map, string_bytes, true, false, None, IfOk, IfErr, length};
+ghost use Rattle.std.specs.Prelude.{◌≡◌, ◌≢◌, ◌↔◌, ◌<◌, ◌≤◌, ℕ, List, map, string_bytes, true, false, None, IfOk, IfErr, length};
+ghost use Rattle.heap_store.specs.Rows.{row_at, is_given_up};
 ghost use Rattle.lazy_tool.specs.Words.{are_plain, text_of_fault};
 ghost use Rattle.lazy_tool.specs.QueueText.{are_queue_events, IsQueueText};
 ghost use Rattle.lazy_tool.specs.Ran.{IsReported};
@@ -82,13 +83,21 @@ struct Ran {
     has_given_up: bool,
 }
 
-// Whether some row is given up: it is full, had no memory or no base.
+// Whether the row of a name is given up: it is full, had no memory or no base.
+fn is_given_up(closed: &Closed, name: u32) -> bool
+    requires low { 1 ≤ name }
+    requires high { name ≤ length closed.now.rows }
+    ensures { result ≡ is_given_up (row_at closed.now) name }
+{
+    !matches!(closed.row(name).ended, Ended::Reply { .. })
+}
+
 fn has_given_up(closed: &Closed) -> bool
     requires { length closed.now.rows < 4294967296 }
     ensures { result ≡ some_given_up closed.now (length closed.now.rows) }
 {
     for i in 0..closed.rows() {
-        if !matches!(closed.row(i as u32 + 1).ended, Ended::Reply { .. }) {
+        if is_given_up(closed, i as u32 + 1) {
             return true;
         }
     }
