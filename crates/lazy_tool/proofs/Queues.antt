@@ -55,9 +55,9 @@ kinds_below events script all (suc n) i l e here =
     let smaller : has_smaller_bases i e ≡ true = (and_parts (is_trim e) (has_smaller_bases i e) (and_parts (is_trim e && has_smaller_bases i e) (is_of_its_kind (event_of events) e) (script.each i e here)).0).1 in
     kind_is (event_of events) i e here smaller
     ∙ queue_kind e.op (kind_of (event_of events) e.base) (event_passes events i e all here) (λ u.
-        let base = first_base i e.base (cond (uses_other e.op) (e.other ∷ []) []) (uses_base e.op) u smaller in
-        let before = event_before events i e.base e here base.0 base.1 in
-        kinds_below events script all n e.base (omega (arith, base.1)) before.0 before.1)
+    let base = first_base i e.base (cond (uses_other e.op) (e.other ∷ []) []) (uses_base e.op) u smaller in
+    let before = event_before events i e.base e here base.0 base.1 in
+    kinds_below events script all n e.base (omega (arith, base.1)) before.0 before.1)
 
 pub queues_are : (events : List Event) → IsScript events → are_queue_events events ≡ true → AreQueues events
 queues_are events script all i e here = kinds_below events script all (suc i) i (omega arith) e here

@@ -1,5 +1,5 @@
 -- What a call answers, and what it leaves of the source and the sink.
-use Rattle.std.specs.Prelude.{◌≡◌, ◌<◌, ◌⊎◌, ℕ, zero, suc, Bool, false, ◌||◌, cond, List, Option, Some, None, length, take}
+use Rattle.std.specs.Prelude.{◌≡◌, ◌<◌, ◌≤◌, ◌⊎◌, ℕ, zero, suc, Bool, false, ◌||◌, cond, List, Option, Some, None, length, take}
 use Rattle.std.specs.Io.KnownBytes.{Appends, Consumes}
 use Rattle.lazy_rec.specs.declared.events.Event.{Event}
 use Rattle.heap_store.specs.World.{World}
@@ -29,9 +29,10 @@ pub record IsSilent (old new : Ends) (closed : Option World) : Type 0 where
   pub write_faults : new.write_faults ≡ old.write_faults
   pub no_book : closed ≡ None
 
--- the source was taken to its end, and its bytes are a text of these events
+-- the source was taken to its end, and its bytes, at most 16,777,216, are a text of these events
 pub record IsRead (old new : Option (List ℕ)) (events : List Event) : Type 0 where
   pub bytes : List ℕ
+  pub few : length bytes ≤ 16777216
   pub taken : TakesAll old new bytes
   pub text : IsQueueText bytes events
 

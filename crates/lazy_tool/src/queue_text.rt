@@ -10,10 +10,7 @@ use std::alloc::Global;
 fn is_queue_op(op: Op) -> bool
     ensures { result ≡ is_queue_op op }
 {
-    matches!(
-        op,
-        Op::New(Kind::Bankq) | Op::Snoc | Op::Head | Op::Tail
-    )
+    matches!(op, Op::New(Kind::Bankq) | Op::Snoc | Op::Head | Op::Tail)
 }
 
 fn are_queue_events(events: &[Event]) -> bool

@@ -1,5 +1,6 @@
 //! What runs on one thread.
-ghost use Rattle.std.specs.Prelude.{◌≡◌, ◌≢◌, ◌↔◌, ◌<◌, ◌≤◌, ℕ, List, map, string_bytes, true, false, None, IfOk, IfErr, length};
+ghost use Rattle.std.specs.Prelude.{◌≡◌, ◌≢◌, ◌↔◌, ◌<◌, ◌≤◌, ℕ, List, map, string_bytes, true, false, None, Some, IfOk, IfErr, length};
+ghost use Rattle.lazy_rec.specs.declared.events.Event.{Event};
 ghost use Rattle.heap_store.specs.Rows.{row_at, is_given_up};
 ghost use Rattle.lazy_tool.specs.Words.{are_plain, text_of_fault};
 ghost use Rattle.lazy_tool.specs.QueueText.{are_queue_events, IsQueueText};
@@ -181,6 +182,10 @@ pub fn run_solo<S: Source, K: Sink>(
     ensures untouched { result.why ≡ Why.Usage → (source.new ≡ source.old) × (sink.new ≡ sink.old) }
     ensures answers { Answers (ends (S.left source.old) (S.faults source.old) (K.holds sink.old) (K.faults sink.old)) (ends (S.left source.new) (S.faults source.new) (K.holds sink.new) (K.faults sink.new)) result.why result.closed }
     ensures status { result.status ≡ status_of result.why result.closed }
+
+    // A text that the source holds is read, unless it is too long.
+    ensures reads { (bytes : List ℕ) (events : List Event) → S.left source.old ≡ Some bytes → IsQueueText bytes events
+        → length bytes ≤ 16777216 → result.why ≢ Why.Unread }
 {
     if are_plain(words) {
         serve(alloc, source, sink)

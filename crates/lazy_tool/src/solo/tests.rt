@@ -141,7 +141,11 @@ fn most_events(rt: HostRuntime) -> Result<(), Fail> {
         text.push_str(format!(in rt.alloc(); "tail {k}\n")?.as_str())?;
     }
     let mut source = SureSource::new(text.into_bytes());
-    let mut sink = MemSink::new(vec![in rt.alloc(); 0; 2_000_000]?, 65_536, Vec::new(rt.alloc()));
+    let mut sink = MemSink::new(
+        vec![in rt.alloc(); 0; 2_000_000]?,
+        65_536,
+        Vec::new(rt.alloc()),
+    );
     let outcome = run_solo(rt.alloc(), words.as_slice(), &mut source, &mut sink);
     assert_eq!(rt; outcome.status, 0);
     assert_eq!(rt; sink.held().len(), 1_888_898);
