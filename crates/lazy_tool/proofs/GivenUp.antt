@@ -1,5 +1,5 @@
 -- Rows that are given up, as a closed book tells them.
-use Rattle.std.proofs.Common.{◌≡◌, ℕ, zero, suc, ◌+◌, ◌<◌, Bool, true, false, not, ◌||◌, Option, Some, None, length, refl, ap, arith, ⊎_elim}
+use Rattle.std.proofs.Common.{◌≡◌, ℕ, zero, suc, ◌+◌, ◌<◌, Bool, true, false, not, ◌||◌, Option, Some, None, refl, ap, arith, ⊎_elim}
 use Rattle.std.proofs.lemmas.Bool.{cases_eq}
 use Rattle.lazy_rec.specs.Tests.{is_some_and}
 use Rattle.lazy_rec.specs.declared.events.Reply.{Reply}
@@ -9,7 +9,7 @@ use Rattle.heap_store.specs.Rows.{Row, Ending, not_ended, answered, full, memory
 use Rattle.version_book.specs.declared.rows.Ended.{Ended}
 use Rattle.version_book.specs.declared.rows.Ended.TheVariants as ends
 use Rattle.version_book.specs.declared.rows.Row.{Row as ToldRow}
-use Rattle.version_book.specs.Closed.{told_of, told_with, ended_told, row_told}
+use Rattle.version_book.specs.Closed.{told_of, row_told}
 use Rattle.lazy_tool.specs.Outcome.{some_given_up}
 
 abbrev pub is_reply : Ended → Bool

@@ -1,5 +1,5 @@
 -- Scripts with the operations of banker's queues alone are of banker's queues.
-use Rattle.std.proofs.Common.{◌≡◌, ℕ, zero, suc, ◌<◌, ◌≤◌, ltb, Bool, true, false, cond, ◌&&◌, Option, Some, None, List, [], ◌∷◌, slice_get, refl, sym, ap, ◌∙◌, arith}
+use Rattle.std.proofs.Common.{◌≡◌, ℕ, zero, suc, ◌<◌, ◌≤◌, ltb, Bool, true, false, cond, ◌&&◌, Option, Some, List, [], ◌∷◌, slice_get, refl, sym, ◌∙◌, arith}
 use Rattle.std.specs.List.{list_all}
 use Rattle.std.proofs.lemmas.Bool.{true≢false, and_parts, ltb-true}
 use Rattle.lazy_rec.specs.declared.events.Kind.{Kind}

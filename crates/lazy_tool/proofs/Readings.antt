@@ -1,13 +1,12 @@
 -- A source that tells its bytes is read or unreadable, and not both.
-use Rattle.std.proofs.Common.{◌≡◌, ◌≢◌, ℕ, ◌<◌, ◌≤◌, ◌⊎◌, List, ◌++◌, Option, Some, None, length, sym, ap, subst, arith, ⊎_elim}
+use Rattle.std.proofs.Common.{◌≡◌, ◌≢◌, ℕ, ◌≤◌, List, Option, Some, None, length, sym, ap, subst, arith, ⊎_elim}
 use Rattle.std.proofs.lemmas.List.{length-append}
 use Rattle.std.specs.Io.KnownBytes.{Consumes}
 use Rattle.lazy_rec.specs.declared.events.Event.{Event}
 use Rattle.heap_store.specs.World.{World}
-use Rattle.lazy_outside.specs.Bytes.{TakesAll}
 use Rattle.lazy_tool.specs.declared.solo.Why.{Why}
 use Rattle.lazy_tool.specs.declared.solo.Why.TheVariants as why
-use Rattle.lazy_tool.specs.QueueText.{IsQueueText, IsNoQueueText}
+use Rattle.lazy_tool.specs.QueueText.{IsQueueText}
 use Rattle.lazy_tool.specs.Outcome.{Ends, Answers, IsUnreadable}
 
 too_long : (bytes taken : List ℕ) (new : Option (List ℕ)) → Consumes (Some bytes) new taken → length taken ≡ 16777217 → length bytes ≤ 16777216 → ⊥
