@@ -1,8 +1,8 @@
 -- The canonical text reads as its events.
-use Rattle.std.proofs.Common.{◌≡◌, ◌≢◌, ℕ, suc, ◌+◌, ◌^◌, ◌≤◌, ◌<◌, Bool, true, false, ◌&&◌, ◌||◌, not, eqb, ltb, leb, List, [], ◌∷◌, ◌++◌, length, Some, Ok, refl, sym, ap, subst, ◌∙◌, codes, decimal, ◌⊎◌, inl, inr, append_assoc, length-append, lit<, arith}
+use Rattle.std.proofs.Common.{◌≡◌, ℕ, suc, ◌+◌, ◌<◌, Bool, true, false, ◌&&◌, not, eqb, ltb, List, [], ◌∷◌, ◌++◌, length, Some, Ok, refl, sym, ap, subst, ◌∙◌, codes, decimal, inl, inr, append_assoc, length-append, lit<, arith}
 use Rattle.std.specs.List.{slice_split, list_all, filter, All, AllByRecursion, join_with_byte, flat_map}
 use Rattle.std.specs.Char.{is_ascii_digit, digit_value}
-use Rattle.std.specs.Str.Parse.{digits_value, AllDigits}
+use Rattle.std.specs.Str.Parse.{AllDigits}
 use Rattle.std.proofs.lemmas.Bool.{lt-ltb, le-leb, eqb-true, ne_eqb, ltb-true, and_parts, not-true}
 use Rattle.std.proofs.lemmas.List.Splits.{slice_split_at, slice_split_none, length-slice_split}
 use Rattle.std.proofs.lemmas.List.Elements.{All-from_recursion, All-append, All-cons, All-nil}
@@ -15,7 +15,6 @@ use Rattle.lazy_rec.specs.declared.events.Op.TheVariants as ops
 use Rattle.lazy_rec.specs.declared.events.Event.{Event}
 use Rattle.lazy_rec.specs.Kinds.{same_kind}
 use Rattle.lazy_rec.specs.History.{event_of, is_event_at}
-use Rattle.script_text.specs.declared.words.Form.{Form}
 use Rattle.script_text.specs.declared.words.Form.TheVariants as forms
 use Rattle.script_text.specs.Lines.{lines_of, words_of, number_of, is_filled, ended}
 use Rattle.script_text.specs.Words.{kind_named, op_word, op_form, kind_word}

@@ -1,8 +1,8 @@
 -- When an event may stand under a name.
-use Rattle.std.proofs.Common.{◌≡◌, ℕ, zero, suc, ◌+◌, ◌<◌, ◌≤◌, eqb, ltb, leb, cond, Bool, true, false, not, ◌&&◌, ◌||◌, Option, Some, None, Result, Ok, Err, List, [], ◌∷◌, ◌++◌, length, refl, sym, ap, subst, ◌∙◌, arith, ◌⊎◌, inl, inr}
+use Rattle.std.proofs.Common.{◌≡◌, ℕ, zero, suc, ◌<◌, eqb, ltb, Bool, true, false, not, ◌&&◌, ◌||◌, Option, Some, None, List, [], ◌∷◌, refl, sym, ap, subst, ◌∙◌, arith, ◌⊎◌, inl, inr}
 use Rattle.std.specs.List.{list_all}
 use Rattle.std.specs.Str.{bytes_eq}
-use Rattle.std.proofs.lemmas.Bool.{eqb-true, eq-eqb, and_parts, ltb-true, lt-ltb, not-true, cases_Bool}
+use Rattle.std.proofs.lemmas.Bool.{eqb-true, eq-eqb, and_parts, ltb-true, lt-ltb, cases_Bool}
 use Rattle.lazy_rec.specs.declared.events.Kind.{Kind}
 use Rattle.lazy_rec.specs.declared.events.Kind.TheVariants as kind
 use Rattle.lazy_rec.specs.declared.events.Op.{Op}
@@ -10,7 +10,7 @@ use Rattle.lazy_rec.specs.declared.events.Op.TheVariants as ops
 use Rattle.lazy_rec.specs.declared.events.Event.{Event}
 use Rattle.lazy_rec.specs.Tests.{is_some_and}
 use Rattle.lazy_rec.specs.Kinds.{kind_number, same_kind, belongs, uses_base, uses_other, uses_argument}
-use Rattle.lazy_rec.specs.History.{Events, event_of, kind_of, is_event_at}
+use Rattle.lazy_rec.specs.History.{Events, kind_of, is_event_at}
 use Rattle.script_text.specs.declared.words.Form.{Form}
 use Rattle.script_text.specs.declared.words.Form.TheVariants as forms
 use Rattle.script_text.specs.Words.{look, operations, form_of, op_word, op_form}

@@ -1,14 +1,14 @@
 -- A line that is an event gives one that may stand next, and a script grows by such events.
-use Rattle.std.proofs.Common.{◌≡◌, ℕ, zero, suc, ◌+◌, ◌<◌, ◌≤◌, eqb, ltb, leb, cond, Bool, true, false, not, ◌&&◌, ◌||◌, Option, Some, None, Result, Ok, Err, List, [], ◌∷◌, ◌++◌, length, slice_get, refl, sym, ap, subst, ◌∙◌, arith, ◌⊎◌, inl, inr, lit<, append_assoc, length-append}
+use Rattle.std.proofs.Common.{◌≡◌, ℕ, zero, suc, ◌<◌, ◌≤◌, ltb, leb, cond, Bool, true, false, not, ◌&&◌, ◌||◌, Option, Some, None, Result, Ok, Err, List, [], ◌∷◌, ◌++◌, length, slice_get, refl, sym, ap, subst, ◌∙◌, arith, ◌⊎◌, inl, inr, lit<, length-append}
 use Rattle.std.specs.Str.Parse.{digits_value}
 use Rattle.std.proofs.lemmas.Bool.{and_parts, ltb-true, leb-true, lt-ltb, le-leb, not-true, cases_lt, cases_eq}
-use Rattle.std.proofs.lemmas.Option.{slice_get_past, slice_get_within}
+use Rattle.std.proofs.lemmas.Option.{slice_get_past}
 use Rattle.lazy_rec.specs.declared.events.Kind.{Kind}
 use Rattle.lazy_rec.specs.declared.events.Op.{Op}
 use Rattle.lazy_rec.specs.declared.events.Op.TheVariants as ops
 use Rattle.lazy_rec.specs.declared.events.Event.{Event}
 use Rattle.lazy_rec.specs.Kinds.{same_kind, belongs, uses_base, uses_other, uses_argument}
-use Rattle.lazy_rec.specs.History.{Events, event_of, kind_of, new_kind, is_event_at, IsScript}
+use Rattle.lazy_rec.specs.History.{event_of, kind_of, new_kind, is_event_at}
 use Rattle.script_text.specs.declared.model.Reason.{Reason}
 use Rattle.script_text.specs.declared.model.Reason.TheVariants.{WrongCount, UnknownWord, BadNumber, BaseNotEarlier, NotOfThisKind, TwoKinds, TooMany}
 use Rattle.script_text.specs.declared.words.Form.{Form}

@@ -1,12 +1,12 @@
 -- There is one answer.
-use Rattle.std.proofs.Common.{◌≡◌, ℕ, List, [], ◌∷◌, ◌++◌, Result, Ok, Err, true, false, refl, sym, ap, ap₂, subst, ◌∙◌, inl, inr, ◌⊎◌, append_assoc}
+use Rattle.std.proofs.Common.{◌≡◌, ℕ, List, [], ◌∷◌, ◌++◌, Err, refl, sym, ap, ap₂, subst, ◌∙◌, inl, inr, append_assoc}
 use Rattle.std.proofs.lemmas.List.{append-nil}
 use Rattle.std.proofs.lemmas.Bool.{both_ways}
 use Rattle.lazy_rec.specs.declared.events.Event.{Event}
 use Rattle.script_text.specs.declared.model.Reason.{Reason}
 use Rattle.script_text.specs.Lines.{lines_of}
 use Rattle.script_text.specs.Events.{event_at}
-use Rattle.script_text.specs.Text.{EventLine, AreEvents, IsText, IsFirst, IsFirstFault, begins_well, body}
+use Rattle.script_text.specs.Text.{EventLine, AreEvents, IsText, IsFirstFault, begins_well, body}
 
 pub same_events : (before : List Event) (ls : List EventLine) (es fs : List Event) → AreEvents before ls es → AreEvents before ls fs → es ≡ fs
 same_events before [] [] [] h k = refl

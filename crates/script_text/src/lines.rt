@@ -1,5 +1,5 @@
 //! Lines, words and numbers.
-ghost use Rattle.std.specs.Prelude.{◌≡◌, ◌≢◌, ◌<◌, slice_index, ◌≤◌, [], ◌∷◌, length, take, drop, MatchOption, IfSome, Some, None, true, ◌==◌};
+ghost use Rattle.std.specs.Prelude.{◌≡◌, ◌≢◌, ◌<◌, slice_index, ◌≤◌, [], ◌∷◌, length, MatchOption, IfSome, Some, None, true, ◌==◌};
 ghost use Rattle.std.specs.Char.{is_ascii_digit};
 ghost use Rattle.std.specs.Str.Parse.{digits_value};
 ghost use Rattle.std.specs.Option.{option_map};

@@ -1,8 +1,7 @@
 //! The canonical text of a script.
-ghost use Rattle.std.specs.Prelude.{◌≡◌, ℕ, List, ◌++◌, ◌∷◌, [], IfOk, OnOk, decimal};
+ghost use Rattle.std.specs.Prelude.{◌≡◌, ℕ, List, ◌++◌, ◌∷◌, IfOk, OnOk, decimal};
 ghost use Rattle.lazy_rec.specs.declared.events.Event.{Event};
 ghost use Rattle.script_text.specs.Text.{IsText, IsFirstFault, IsWritable, canonical_text, line_text, event_words, new_word};
-ghost use Rattle.script_text.specs.Words.{op_word, op_form, op_number, kind_word};
 ghost use Rattle.script_text.specs.declared.model.Reason.{Reason};
 
 use crate::script::Script;

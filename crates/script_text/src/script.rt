@@ -1,5 +1,5 @@
 //! A script as a value, and its reader.
-ghost use Rattle.std.specs.Prelude.{◌≡◌, ℕ, suc, ◌≤◌, ◌⊎◌, ◌++◌, ◌∷◌, [], List, length, IfOk, OnOk, Ok, Err, Some, slice_get};
+ghost use Rattle.std.specs.Prelude.{◌≡◌, ℕ, suc, ◌≤◌, ◌⊎◌, ◌++◌, ◌∷◌, [], List, length, IfOk, Ok, Err, Some};
 ghost use Rattle.lazy_rec.specs.History.{event_of, kind_of};
 ghost use Rattle.lazy_rec.specs.declared.events.Event.{Event};
 ghost use Rattle.script_text.specs.Lines.{words_of};

@@ -1,5 +1,5 @@
 use Rattle.std.proofs.Common.{subst, sym}
-use Rattle.script_text.specs.Text.{IsText, IsFirstFault}
+use Rattle.script_text.specs.Text.{IsText}
 use Rattle.script_text.proofs.Back.{back}
 use Rattle.script_text.proofs.SoFar.{text_writable}
 use Rattle.script_text.proofs.Unique.{one_script, script_or_fault}

@@ -1,4 +1,4 @@
-use Rattle.std.proofs.Common.{◌≡◌, ◌+◌, ◌≤◌, length}
+use Rattle.std.proofs.Common.{◌+◌, ◌≤◌, length}
 use Rattle.script_text.specs.Lines.{lines_of}
 use Rattle.script_text.specs.Text.{body, event_lines}
 use Rattle.script_text.proofs.SoFar.{Reads}

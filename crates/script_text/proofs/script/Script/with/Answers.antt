@@ -1,6 +1,6 @@
 use Rattle.std.proofs.Common.{◌≡◌, suc, Some, ◌∷◌, [], ◌++◌, length, sym, subst}
 use Rattle.lazy_rec.specs.History.{event_of, kind_of}
-use Rattle.script_text.specs.Text.{IsWritable, Follows, AreKindsOf}
+use Rattle.script_text.specs.Text.{IsWritable, Follows}
 use Rattle.script_text.proofs.Follow.{writable_more, kinds_more}
 use Rattle.script_text.proofs.script.Script.with.Goals as goal
 
