@@ -10,4 +10,12 @@ pub mod Steps
 pub mod ShowLaws
 pub mod LawfulLaws
 pub mod RowLaws
+pub mod PlainLists
+pub mod PlainWorlds
+pub mod PlainSeen
+pub mod PlainSteps
+pub mod PlainReads
+pub mod PlainRows
+pub mod PlainOpen
+pub mod PlainTests
 pub mod HistoryLaws

@@ -13,3 +13,6 @@ pub mod RowCalls
 pub mod Jobs
 pub mod Budget
 pub mod Shared
+pub mod Plain
+pub mod Props
+pub mod Opened

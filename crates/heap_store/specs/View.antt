@@ -13,7 +13,7 @@ use Rattle.heap_store.specs.declared.claims.Claim.{Claim}
 use Rattle.heap_store.specs.declared.claims.Claim.TheVariants as answers
 use Rattle.heap_store.specs.declared.claims.Full.{Full}
 use Rattle.heap_store.specs.Span.{Span}
-use Rattle.heap_store.specs.World.{World, recs, state_at, done_at, is_claimed_at, show, fixed_places}
+use Rattle.heap_store.specs.World.{World, recs, is_published, state_at, done_at, is_claimed_at, show, fixed_places}
 use Rattle.heap_store.specs.Rows.{row_at, words_at, is_ended_at}
 use Rattle.heap_store.specs.Growth.{Grows}
 use Rattle.heap_store.specs.Legal.{IsLegal, FollowsPlan}
@@ -67,6 +67,9 @@ pub record IsLawfulView (v : View) : Type 0 where
   pub hand : IsLawfulHand v.seen v.hand
   pub words : (i : ℕ) → 1 ≤ i → i ≤ v.about.rows → length (words_at v.seen i) ≡ 6
   pub places : published_count v.seen + length v.hand.reserved ≤ fixed_places + v.about.capacity
+  -- every place that is published or in hand fits a record's field of a place
+  pub published_low : (p : ℕ) → is_published (recs v.seen) p ≡ true → p < 4194304
+  pub reserved_low : (p : ℕ) → contains v.hand.reserved p ≡ true → p < 4194304
   pub drawn : v.about.alone ≡ true → published_count v.seen + length v.hand.reserved ≡ fixed_places + v.drawn
   pub room : v.about.alone ≡ true → v.drawn ≤ v.about.capacity
   pub claimed : v.about.alone ≡ true → (s : ℕ) → is_claimed_at v.seen s ≡ true → holds_claim v.hand s ≡ true

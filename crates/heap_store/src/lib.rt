@@ -6,6 +6,7 @@ pub mod claims;
 pub mod heap;
 pub mod jobs;
 pub mod nodes;
+pub mod plain;
 pub mod run;
 pub mod versions;
 
@@ -13,5 +14,6 @@ pub use claims::{Claim, Full, HeldClaim, NamesFull, OpenRow};
 pub use heap::{Claims, Heap, Rows};
 pub use jobs::{After, Built, Cursor, EventJob, Jobs, Prep, Stage};
 pub use nodes::Node;
+pub use plain::PlainHeap;
 pub use run::Run;
 pub use versions::Version;

@@ -10,3 +10,4 @@ pub mod Meaning
 pub mod Units
 pub mod Packed
 pub mod States
+pub mod Shown

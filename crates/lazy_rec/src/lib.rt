@@ -3,13 +3,20 @@
 #![tactic(auto)]
 
 pub mod events;
+mod fields;
 pub mod numbers;
 pub mod packing;
 pub mod places;
+mod ranges;
 pub mod records;
 pub mod states;
 
 pub use events::{Event, Kind, NoMemory, Op, Reply};
+pub use numbers::{bits, ones, trailing_ones, zeros};
+pub use packing::{decode, unpack};
 pub use places::{Item, Ref};
 pub use records::{Rec, Sort};
 pub use states::SuspState;
+
+#[cfg(test)]
+mod tests;

@@ -1,5 +1,6 @@
 //! The records that a place can show.
 
+use crate::numbers::{ones, trailing_ones};
 use crate::places::{Item, Ref};
 
 /// Which structure a place belongs to, and as which part of it.
@@ -198,4 +199,90 @@ pub enum Rec {
         size: u32,
         key: Item,
     },
+}
+
+impl Rec {
+    ghost use Rattle.std.specs.Prelude.{◌≡◌};
+    ghost use Rattle.lazy_rec.specs.Named.{sort_of, is_pending};
+    ghost use Rattle.lazy_rec.specs.Units.{steps, cost};
+
+    /// The structure that the record belongs to, and as which part.
+    pub fn sort(&self) -> Sort
+        ensures { result ≡ sort_of self.now }
+    {
+        match self {
+            Rec::Nil | Rec::Cons { .. } => Sort::Stream,
+            Rec::LNil | Rec::LCons { .. } => Sort::List,
+            Rec::StreamTop { .. } => Sort::StreamTop,
+            Rec::BankTop { .. } => Sort::BankTop,
+            Rec::RtTop { .. } => Sort::RtTop,
+            Rec::HeapTop { .. } => Sort::HeapTop,
+            Rec::TNil | Rec::TCons { .. } => Sort::TreeList,
+            Rec::Tree { .. } => Sort::Tree,
+            Rec::CatNil | Rec::CatNode { .. } => Sort::Cat,
+            Rec::Leaf { .. } | Rec::Node { .. } => Sort::Element,
+            Rec::Digit { .. } => Sort::Digit,
+            Rec::TEmpty | Rec::Single { .. } | Rec::Deep { .. } => Sort::Finger,
+            Rec::Append { .. } | Rec::Reverse { .. } | Rec::BankRot { .. } | Rec::RtRot { .. } =>
+                Sort::Stream,
+            Rec::HeapInsert { .. } | Rec::HeapMerge { .. } => Sort::TreeList,
+            Rec::LinkAll { .. } => Sort::Cat,
+            Rec::PushL { .. }
+            | Rec::PushR { .. }
+            | Rec::DeepL { .. }
+            | Rec::DeepR { .. }
+            | Rec::Concat { .. } => { Sort::Finger }
+        }
+    }
+
+    /// Whether the record is a suspension. A record that isn't is a value.
+    pub fn is_pending(&self) -> bool
+        ensures { result ≡ is_pending self.now }
+    {
+        matches!(
+            self,
+            Rec::Append { .. }
+                | Rec::Reverse { .. }
+                | Rec::BankRot { .. }
+                | Rec::RtRot { .. }
+                | Rec::HeapInsert { .. }
+                | Rec::HeapMerge { .. }
+                | Rec::LinkAll { .. }
+                | Rec::PushL { .. }
+                | Rec::PushR { .. }
+                | Rec::DeepL { .. }
+                | Rec::DeepR { .. }
+                | Rec::Concat { .. }
+        )
+    }
+
+    /// The steps of a suspension, which its state keeps once it is done. A value has none.
+    pub fn steps(&self) -> u64
+        ensures { result ≡ steps self.now }
+    {
+        match *self {
+            Rec::Append { .. } | Rec::RtRot { .. } | Rec::LinkAll { .. } => 1,
+            Rec::Reverse { left, .. } => left as u64,
+            Rec::BankRot { left: 0, off, .. } => off as u64 + 1,
+            Rec::BankRot { .. } => 1,
+            Rec::HeapInsert { size, .. } => trailing_ones(size as u64) as u64 + 1,
+            Rec::HeapMerge { n1, n2, .. } => 1 + ones(n1 as u64) as u64 + ones(n2 as u64) as u64,
+            Rec::PushL { .. }
+            | Rec::PushR { .. }
+            | Rec::DeepL { .. }
+            | Rec::DeepR { .. }
+            | Rec::Concat { .. } => 1,
+            _ => 0,
+        }
+    }
+
+    /// The units of a suspension: its steps, and two credits more for a link. A value has none.
+    pub fn cost(&self) -> u64
+        ensures { result ≡ cost self.now }
+    {
+        match self {
+            Rec::LinkAll { .. } => self.steps() + 2,
+            _ => self.steps(),
+        }
+    }
 }

@@ -36,6 +36,10 @@ pub recs-store : (w : World) (name i v : ℕ) → recs (store_word w name i v) �
 recs-store w zero i v = refl
 recs-store w (suc k) i v = refl
 
+pub nodes-store : (w : World) (name i v : ℕ) → (store_word w name i v).nodes ≡ w.nodes
+nodes-store w zero i v = refl
+nodes-store w (suc k) i v = refl
+
 -- the places' laws don't see the rows' words
 pub roots-store : (w : World) (name i v : ℕ) (rows : NamedRows) → RootsOf w rows → RootsOf (store_word w name i v) rows
 roots-store w zero i v rows h = h

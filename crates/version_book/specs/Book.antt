@@ -1,17 +1,24 @@
 -- How a book's rows change while events run on a heap that no other hand works on.
-use Rattle.std.specs.Prelude.{◌≡◌, ℕ, ◌+◌, ◌<◌, ◌≤◌, Bool, true, false, Option, Some, None, List, []}
+use Rattle.std.specs.Prelude.{◌≡◌, ℕ, ◌+◌, ◌<◌, ◌≤◌, Bool, true, false, not, ltb, ◌&&◌, Option, Some, None, List, [], length}
 use Rattle.std.specs.List.{list_all, list_any}
 use Rattle.lazy_rec.specs.declared.events.Event.{Event}
 use Rattle.lazy_rec.specs.declared.events.Reply.{Reply}
-use Rattle.lazy_rec.specs.Kinds.{bases, is_trim}
-use Rattle.lazy_rec.specs.History.{has_smaller_bases, is_of_its_kind}
+use Rattle.lazy_rec.specs.Kinds.{bases, is_trim, same_kind}
+use Rattle.lazy_rec.specs.History.{has_smaller_bases, is_of_its_kind, kind_made, kind_of, list_made, plain, reply_to}
 use Rattle.heap_store.specs.declared.claims.Full.{Full}
 use Rattle.heap_store.specs.declared.claims.OpenRow.{OpenRow}
 use Rattle.heap_store.specs.declared.versions.Version.{Version}
-use Rattle.heap_store.specs.World.{World, recs}
+use Rattle.lazy_rec.specs.Tests.{is_some_and}
+use Rattle.lazy_rec.specs.Named.{is_pending}
+use Rattle.lazy_rec.specs.Meaning.{means}
+use Rattle.heap_store.specs.World.{World, recs, holds}
 use Rattle.heap_store.specs.Growth.{Grows}
-use Rattle.heap_store.specs.Rows.{Row, Ending, not_ended, answered, full, memory, no_base, row_at, word_at, is_answered, is_given_up, events_of}
+use Rattle.heap_store.specs.Rows.{Row, Ending, not_ended, answered, full, memory, no_base, row_at, word_at, store_word, version_at, is_answered, is_given_up, events_of}
 use Rattle.heap_store.specs.Hand.{Hand, contains, hand_begun, hand_ended}
+use Rattle.heap_store.specs.RowCalls.{is_word_value, EndsWell}
+use Rattle.heap_store.specs.Legal.{IsLegal, in_order, reply_in_range}
+use Rattle.heap_store.specs.Lawful.{is_root}
+use Rattle.heap_store.specs.LookedAt.{HasRoots, row_has_looked}
 use Rattle.heap_store.specs.View.{View}
 
 -- no other hand works on the heap, which has no plan and isn't bound to a caller, and no claim is in hand
@@ -52,6 +59,10 @@ pub record MayBegin (v : View) (name : ℕ) (e : Event) : Type 0 where
   pub answered : list_all (is_answered (row_at v.seen)) (bases e) ≡ true
   pub kinds : is_of_its_kind (events_of (row_at v.seen)) e ≡ true
 
+-- one of its bases is given up
+abbrev pub HasLostBase : View → Event → Type 0
+HasLostBase v e = list_any (is_given_up (row_at v.seen)) (bases e) ≡ true
+
 -- the row of the name was set, and no other row or place changed
 pub record RowSet (old new : View) (name : ℕ) (r : Row) : Type 0 where
   pub nodes : new.seen.nodes ≡ old.seen.nodes
@@ -71,12 +82,59 @@ pub record Ended (old new : View) (name : ℕ) (r : Row) : Type 0 where
   pub set : RowSet old new name r
   pub hand : new.hand ≡ hand_ended old.hand name
 
--- the row that is worked on is that of the name and the event, and a reserve was refused since it began, or not
-pub record IsWorking (v : View) (name : ℕ) (e : Event) (refused : Bool) : Type 0 where
+-- the row that is worked on is that of the name, and a reserve was refused since it began, or not
+pub record IsWorking (v : View) (name : ℕ) (refused : Bool) : Type 0 where
   pub own : IsOwn v
   pub low : 1 ≤ name
   pub high : name ≤ v.about.rows
   pub drawn : contains v.hand.names name ≡ true
-  pub here : row_at v.seen name ≡ Some (begun_row e)
+  pub event : Event
+  pub here : row_at v.seen name ≡ Some (begun_row event)
   pub end_word : word_at v.seen name 5 ≡ 0
   pub open_row : v.hand.open_row ≡ Some (record { name = name; refused = refused })
+
+-- the reply and the version are those of the event on the plain lists of its bases, and the base was looked at
+pub record Answers (w : World) (e : Event) (reply : Reply) (v : Version) : Type 0 where
+  pub in_range : (reply_in_range reply && ltb v.size 2147483648) ≡ true
+  pub kind : is_some_and (same_kind v.kind) (kind_made (kind_of (events_of (row_at w))) (Some e)) ≡ true
+  pub size : v.size ≡ length (list_made (plain (events_of (row_at w))) (Some e))
+  pub value : holds (recs w) v.root.0 (λ r. not (is_pending r)) ≡ true
+  pub reply_is : reply ≡ reply_to (events_of (row_at w)) e
+  pub meaning : in_order v.kind (means (recs w) v.root.0) ≡ list_made (plain (events_of (row_at w))) (Some e)
+  pub root : holds (recs w) v.root.0 (is_root (recs w) v.kind v.root.0) ≡ true
+  pub looked : row_has_looked w (row_at w) e reply (version_at (row_at w) e.base) ≡ true
+
+-- what storing the end word asks: with it the row has ended, and the rows are legal
+pub record MayEndRow (v : View) (name code : ℕ) : Type 0 where
+  pub own : IsOwn v
+  pub drawn : contains v.hand.names name ≡ true
+  pub fits : is_word_value 5 code ≡ true
+  pub row : Row
+  pub here : row_at (store_word v.seen name 5 code) name ≡ Some row
+  pub ends : EndsWell v name row
+  pub legal : IsLegal (store_word v.seen name 5 code)
+  pub roots : HasRoots (store_word v.seen name 5 code)
+
+-- what storing one of words 1 to 4 asks, of a row that hasn't ended: words 1 and 2 come before word 0
+pub record MayPut (v : View) (name i value : ℕ) : Type 0 where
+  pub own : IsOwn v
+  pub low : 1 ≤ name
+  pub high : name ≤ v.about.rows
+  pub drawn : contains v.hand.names name ≡ true
+  pub from : 1 ≤ i
+  pub to : i ≤ 4
+  pub fits : is_word_value i value ≡ true
+  pub end_word : word_at v.seen name 5 ≡ 0
+  pub first : i < 3 → word_at v.seen name 0 ≡ 0
+
+-- the word was stored, and no row says anything else for it
+pub record WordPut (old new : View) (name i value : ℕ) : Type 0 where
+  pub nodes : new.seen.nodes ≡ old.seen.nodes
+  pub rows : row_at new.seen ≡ row_at old.seen
+  pub here : word_at new.seen name i ≡ value
+  pub others : (j : ℕ) → (j ≡ i → ⊥) → word_at new.seen name j ≡ word_at old.seen name j
+  pub hand : new.hand ≡ old.hand
+  pub about : new.about ≡ old.about
+  pub refusals : new.refusals ≡ old.refusals
+  pub drawn : new.drawn ≡ old.drawn
+  pub named : new.named ≡ old.named

@@ -2,6 +2,7 @@
 #![tactic(auto)]
 
 pub mod closed;
+mod row_steps;
 pub mod rows;
 pub mod solo;
 pub mod words;

@@ -1,0 +1,34 @@
+use Rattle.std.proofs.Common.{◌≡◌, ◌+◌, ◌-◌, ◌<◌, ◌≤◌, ℕ, refl, arith, ap, sym, ◌∙◌, true, false, Some}
+use Rattle.heap_store.proofs.GrowthLaws.{grows_trans, value_up}
+use Rattle.heap_store.proofs.Steps.{Quiet_trans}
+use Rattle.bank_queue.specs.Queue.{looks_at_front}
+use Rattle.bank_queue.proofs.Operations.{BuildTop, build_later, build_root, same_root, none_head, head_built, head_looks}
+use Rattle.bank_queue.proofs.events.head.Goals as goal
+use Rattle.bank_queue.proofs.events.head.Goals.{After-read_top-top}
+
+pub read_top-top-requires : goal.read_top-top-requires
+read_top-top-requires g c = build_root c.requires.build c.requires.kind
+
+top : (g : _) (c : After-read_top-top g) → BuildTop (g.H.Heap.view c.read_top-top.new.h) c.args.job.now c.args.run.now c.read_top-top.result
+top g c = build_later c.read_top-top.ensures.quiet.grows (g.met.H.Heap.lawful c.read_top-top.new.h).world c.requires.build c.requires.kind c.read_top-top.result c.read_top-top.ensures.top
+
+pub returns-then-top-eq0 : goal.returns-then-top-eq0
+returns-then-top-eq0 g c = record {
+  built = none_head c.read_top-top.ensures.quiet (g.met.H.Heap.lawful c.read_top-top.new.h).world (top g (goal.at.returns-then-top-eq0 g c).After-read_top-top) c.requires.kind c.requires.op c.if-top-eq0.true c.same.result c.same.ensures;
+  base = λ _. same_root _ _ _ c.same.result c.same.ensures;
+}
+
+pub first_cell-cell-requires : goal.first_cell-cell-requires
+first_cell-cell-requires g c =
+    let k = top g (goal.at.first_cell-cell-requires g c).After-read_top-top in
+    let w = k.top.old.well in
+    record { front = w.front; known = k.known (head_looks c.args.job.now.op c.read_top-top.result.lenf c.requires.op (omega arith)); some = omega (arith, w.front_cells); items = w.front_items }
+
+pub returns : goal.returns
+returns g c =
+    let k = build_later (grows_trans c.read_top-top.ensures.quiet.grows c.first_cell-cell.ensures.quiet.grows) (g.met.H.Heap.lawful c.first_cell-cell.new.h).world c.requires.build c.requires.kind c.read_top-top.result c.read_top-top.ensures.top in
+    let h = value_up _ _ c.first_cell-cell.ensures.quiet.grows c.read_top-top.result.front.0 _ c.first_cell-cell.ensures.cell in
+    record {
+      built = head_built (Quiet_trans c.read_top-top.ensures.quiet c.first_cell-cell.ensures.quiet) (g.met.H.Heap.lawful c.first_cell-cell.new.h).world k c.requires.kind c.requires.op c.first_cell-cell.result.value c.first_cell-cell.result.rest h (k.known (head_looks c.args.job.now.op c.read_top-top.result.lenf c.requires.op (omega arith))) c.same-2.result c.same-2.ensures;
+      base = λ _. same_root _ _ _ c.same-2.result c.same-2.ensures;
+    }

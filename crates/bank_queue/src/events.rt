@@ -1,0 +1,175 @@
+//! The operations of banker's queues, each in one stage.
+ghost use Rattle.std.specs.Prelude.{◌≡◌, ◌+◌, ◌<◌, true, Some};
+ghost use Rattle.heap_store.specs.World.{recs};
+ghost use Rattle.heap_store.specs.Lawful.{is_any_bank_rotation};
+ghost use Rattle.heap_store.specs.View.{Quiet};
+ghost use Rattle.heap_store.specs.Jobs.{IsJob, EventPrepared, IsEventBuildable, IsEventBuilt};
+ghost use Rattle.bank_queue.specs.Queue.{top_record, places_for, looks_at_front, ends_at, IsReadyEvent};
+
+use crate::front::{first_cell, is_known};
+use crate::queue::{Top, put_top, read_top};
+use heap_store::{After, Cursor, EventJob, Heap, Prep, Run, Version};
+use lazy_rec::{Kind, Op, Rec, Ref, Reply};
+
+/// The most items of one version.
+const MOST_ITEMS: u32 = 2_147_483_647;
+
+/// What an operation of a queue needs: `head` and `tail` the first cell of a front that isn't empty. The number of places
+/// is exact. No operation has cells to pass one by one, so the cursor stays.
+pub fn prepare_event<H: Heap>(h: &mut H, job: &EventJob, cursor: &mut Cursor) -> Prep
+    requires job { IsJob (H.view h.old).seen job.now }
+    requires kind { job.now.base.kind ≡ Kind.Bankq }
+    ensures quiet { Quiet (H.view h.old) (H.view h.new) }
+    ensures cursor { cursor.new ≡ cursor.old }
+    ensures answer { EventPrepared is_any_bank_rotation IsReadyEvent (H.view h.new).seen job.now result }
+{
+    let top = read_top(h, job.base.root);
+    let ready = Prep::Ready {
+        nodes: places(job.op, &top),
+    };
+    if !looks(job.op, &top) {
+        return ready;
+    }
+    if is_known(h, top.front) {
+        ready
+    } else {
+        Prep::Need(top.front)
+    }
+}
+
+/// Does an operation of a queue. What replies `Empty` or `TooLong`, `size` and `head` end at the base's root.
+pub fn build_event<H: Heap>(h: &mut H, job: &EventJob, cursor: &Cursor, run: &mut Run) -> After
+    requires kind { job.now.base.kind ≡ Kind.Bankq }
+    requires build { IsEventBuildable IsReadyEvent (H.view h.old) job.now run.old }
+    ensures built { IsEventBuilt (H.view h.old) (H.view h.new) job.now run.old run.new result }
+    ensures base { run.old.next ≡ run.old.end → ends_at result job.now.base.root.0 ≡ true }
+{
+    match job.op {
+        Op::Snoc => snoc(h, job, run),
+        Op::Tail => tail(h, job, run),
+        Op::Head => head(h, job, run),
+        _ => same(&job.base, Reply::Number(job.base.size)),
+    }
+}
+
+/// Whether an operation looks at the first cell of the front.
+fn looks(op: Op, top: &Top) -> bool
+    ensures { result ≡ looks_at_front op top.now.lenf }
+{
+    match op {
+        Op::Head | Op::Tail => top.lenf > 0,
+        _ => false,
+    }
+}
+
+/// How many places an operation takes.
+fn places(op: Op, top: &Top) -> u32
+    requires { top.now.lenf + top.now.lenr < 2147483648 }
+    ensures { result ≡ places_for op top.now.lenf top.now.lenr }
+{
+    match op {
+        Op::Snoc => {
+            if top.lenf + top.lenr == MOST_ITEMS {
+                0
+            } else if top.lenr < top.lenf {
+                2
+            } else {
+                3
+            }
+        }
+        Op::Tail => {
+            if top.lenf == 0 {
+                0
+            } else if top.lenr < top.lenf {
+                1
+            } else {
+                2
+            }
+        }
+        _ => 0,
+    }
+}
+
+/// An event that makes nothing ends at its base's root.
+fn same(base: &Version, reply: Reply) -> After
+    ensures { result ≡ After.End base.now.root base.now.size reply }
+{
+    After::End {
+        root: base.root,
+        size: base.size,
+        reply,
+    }
+}
+
+fn snoc<H: Heap>(h: &mut H, job: &EventJob, run: &mut Run) -> After
+    requires kind { job.now.base.kind ≡ Kind.Bankq }
+    requires op { job.now.op ≡ Op.Snoc }
+    requires build { IsEventBuildable IsReadyEvent (H.view h.old) job.now run.old }
+    ensures built { IsEventBuilt (H.view h.old) (H.view h.new) job.now run.old run.new result }
+    ensures base { run.old.next ≡ run.old.end → ends_at result job.now.base.root.0 ≡ true }
+{
+    if job.base.size == MOST_ITEMS {
+        return same(&job.base, Reply::TooLong);
+    }
+    let top = read_top(h, job.base.root);
+    let rear = h.put(
+        run,
+        Rec::LCons {
+            child: false,
+            value: job.arg,
+            rest: top.rear,
+        },
+    );
+    let longer = Top {
+        rear,
+        lenr: top.lenr + 1,
+        ..top
+    };
+    let root = put_top(h, longer, run);
+    After::End {
+        root,
+        size: job.base.size + 1,
+        reply: Reply::Ok,
+    }
+}
+
+fn tail<H: Heap>(h: &mut H, job: &EventJob, run: &mut Run) -> After
+    requires kind { job.now.base.kind ≡ Kind.Bankq }
+    requires op { job.now.op ≡ Op.Tail }
+    requires build { IsEventBuildable IsReadyEvent (H.view h.old) job.now run.old }
+    ensures built { IsEventBuilt (H.view h.old) (H.view h.new) job.now run.old run.new result }
+    ensures base { run.old.next ≡ run.old.end → ends_at result job.now.base.root.0 ≡ true }
+{
+    let top = read_top(h, job.base.root);
+    if top.lenf == 0 {
+        return same(&job.base, Reply::Empty);
+    }
+    let cell = first_cell(h, top.front);
+    let shorter = Top {
+        front: cell.rest,
+        lenf: top.lenf - 1,
+        tails: top.tails + 1,
+        ..top
+    };
+    let root = put_top(h, shorter, run);
+    After::End {
+        root,
+        size: job.base.size - 1,
+        reply: Reply::Ok,
+    }
+}
+
+fn head<H: Heap>(h: &mut H, job: &EventJob, run: &mut Run) -> After
+    requires kind { job.now.base.kind ≡ Kind.Bankq }
+    requires op { job.now.op ≡ Op.Head }
+    requires build { IsEventBuildable IsReadyEvent (H.view h.old) job.now run.old }
+    ensures built { IsEventBuilt (H.view h.old) (H.view h.new) job.now run.old run.new result }
+    ensures base { run.old.next ≡ run.old.end → ends_at result job.now.base.root.0 ≡ true }
+{
+    let top = read_top(h, job.base.root);
+    if top.lenf == 0 {
+        return same(&job.base, Reply::Empty);
+    }
+    let cell = first_cell(h, top.front);
+    same(&job.base, Reply::Number(cell.value))
+}

@@ -1,0 +1,24 @@
+//! The pending work of banker's queues alone.
+ghost use Rattle.heap_store.specs.Lawful.{is_any_bank_rotation};
+
+use crate::rotation;
+use heap_store::{Built, Cursor, Heap, Jobs, Prep, Run};
+use lazy_rec::Ref;
+
+/// Rotations of banker's queues.
+#[derive(Clone, Copy)]
+pub struct BankJobs;
+
+impl Jobs for BankJobs {
+    ghost does = { λ _. is_any_bank_rotation };
+
+    fn prepare<H: Heap>(&self, h: &mut H, s: Ref, cursor: &mut Cursor) -> Prep {
+        let rec = h.read(s);
+        rotation::prepare(&rec, h, s, cursor)
+    }
+
+    fn build<H: Heap>(&self, h: &mut H, s: Ref, cursor: &Cursor, run: &mut Run) -> Built {
+        let rec = h.read(s);
+        rotation::build(&rec, h, s, cursor, run)
+    }
+}

@@ -1,0 +1,6 @@
+use Rattle.dues.proofs.RoomLaws.{places_to}
+use Rattle.dues.proofs.VersionLaws.{IsPassed}
+use Rattle.dues.proofs.rooms.room.Given as goal
+
+abbrev pub invariant-loop-event : goal.invariant-loop-event
+invariant-loop-event l = IsPassed l.events (places_to l.events) l.versions.items l.event-index l.total

@@ -1,0 +1,7 @@
+pub mod Growing
+pub mod Giving
+pub mod Turns
+pub mod Finish
+pub mod Running
+pub mod Starting
+pub mod Looking

@@ -1,0 +1,375 @@
+-- What the calls on places and claims do to the fields of a plain heap and to its view.
+use Rattle.std.proofs.Common.{◌≡◌, ℕ, ◌+◌, ◌-◌, ◌<◌, ◌≤◌, Bool, true, false, List, [], ◌∷◌, ◌++◌, length, replicate, Option, Some, None, refl, sym, ap, ◌∙◌, arith, subst, inl, inr, cond, not, ◌&&◌, ◌||◌, ltb, min}
+use Rattle.std.specs.Prelude.{count_by, slice_set, slice_index_or, option_map}
+use Rattle.std.specs.List.{list_all}
+use Rattle.std.proofs.lemmas.Bool.{and_parts, and_from, lt-ltb, ltb-true}
+use Rattle.std.proofs.lemmas.List.{length-set, length-append, length-replicate}
+use Rattle.std.proofs.lemmas.List.Sums.{sum_by-set, count_by-le-length}
+use Rattle.lazy_rec.specs.declared.records.Rec.{Rec}
+use Rattle.lazy_rec.specs.declared.records.Rec.TheVariants as recs_of
+use Rattle.lazy_rec.specs.declared.places.Ref.{Ref}
+use Rattle.lazy_rec.specs.declared.states.SuspState.{SuspState}
+use Rattle.lazy_rec.specs.declared.states.SuspState.TheVariants.{Unforced, Claimed, Done}
+use Rattle.lazy_rec.specs.Named.{is_pending}
+use Rattle.lazy_rec.specs.States.{given_up, is_claimed, is_unforced, state_in_range}
+use Rattle.lazy_rec.specs.Tests.{implies}
+use Rattle.heap_store.specs.declared.nodes.Node.{Node}
+use Rattle.heap_store.specs.declared.claims.HeldClaim.{HeldClaim}
+use Rattle.heap_store.specs.declared.claims.OpenRow.{OpenRow}
+use Rattle.heap_store.specs.declared.claims.Full.{Full}
+use Rattle.heap_store.specs.Span.{Span}
+use Rattle.heap_store.specs.World.{World, recs, node_at, show, fixed_places}
+use Rattle.heap_store.specs.Growth.{Grows}
+use Rattle.heap_store.specs.Lawful.{IsLawful, IsDoneWell}
+use Rattle.heap_store.specs.Hand.{contains, all_distinct, claim_places, fresh_claim, mark_newest, is_later, without, without_claim, hand_reserved, hand_put, hand_won, hand_released, places_from}
+use Rattle.heap_store.specs.View.{View, Reserved, Fits, Put, IsWon, Completed, MayComplete, GivenUp, is_unbuilt, is_unforced_node, unforced}
+use Rattle.heap_store.specs.Plain.{IsPlain, IsSeenWell, plain_world, plain_hand, plain_view, fresh_node, free_places, open_names, is_claimed_node, is_marked_well}
+use Rattle.heap_store.proofs.GrowthLaws.{grows_refl}
+use Rattle.heap_store.proofs.ShowLaws.{one_value, put_grows, show_adds, state_grows, state-same, done-same}
+use Rattle.heap_store.proofs.LawfulLaws.{lawful_state}
+use Rattle.heap_store.proofs.Steps.{places-mark}
+use Rattle.heap_store.proofs.PlainLists.{count-append, count-replicate, filled-more, free-append, free-replicate, free-filled, free-same, length-without_claim, distinct-without_claim, all-without_claim}
+use Rattle.heap_store.proofs.PlainWorlds.{node-drawn, drawn_there, show-drawn, inside_world, rec_node, published_rec, free_unpublished, fixed_drawn, lawful_hand}
+use Rattle.heap_store.proofs.PlainSeen.{put_seen, won_seen, released_seen, unforced_no_next, unbuilt_no_next, claimed_pending}
+
+-- ---- views
+
+abbrev pub view_with : ℕ → ℕ → ℕ → Full → List HeldClaim → Option OpenRow → World → List ℕ → List ℕ → ℕ → ℕ → View
+view_with capacity row_capacity refused last claims open_row seen reserved names drawn named = record {
+  seen = seen;
+  hand = record { claims = claims; reserved = reserved; names = names; open_row = open_row; vain = None; credits = 0; allowance = 0 };
+  refusals = record { count = refused; last = last };
+  drawn = drawn;
+  named = named;
+  about = record { capacity = capacity; rows = row_capacity; alone = true; plan = None; caller = None };
+}
+
+pub view-same : (capacity row_capacity refused : ℕ) (last : Full) (claims : List HeldClaim) (open_row : Option OpenRow) (w w' : World) (reserved reserved' names names' : List ℕ) (drawn drawn' named named' : ℕ)
+    → w ≡ w' → reserved ≡ reserved' → names ≡ names' → drawn ≡ drawn' → named ≡ named'
+    → view_with capacity row_capacity refused last claims open_row w reserved names drawn named ≡ view_with capacity row_capacity refused last claims open_row w' reserved' names' drawn' named'
+view-same capacity row_capacity refused last claims open_row w w' reserved reserved' names names' drawn drawn' named named' a b c d e = rw (a, b, c, d, e) refl
+
+-- ---- counts
+
+one_if : Bool → ℕ
+one_if b = cond b 1 0
+
+count-set : (t : Option Node → Bool) (nodes : List (Option Node)) (p : ℕ) (o new : Option Node) → p < length nodes → slice_index_or nodes p None ≡ o → count_by t (slice_set nodes p new) + cond (t o) 1 0 ≡ count_by t nodes + cond (t new) 1 0
+count-set t nodes p o new l e =
+    let k = sum_by-set (λ x. cond (t x) 1 0) nodes p new None l in
+    let z : cond (t (slice_index_or nodes p None)) 1 0 ≡ cond (t o) 1 0 = ap {B = ℕ} (λ x. cond (t x) 1 0) e in
+    omega (arith, k, z)
+
+count-shown : (w : World) (p : ℕ) (r : Rec) (s : SuspState) (o : Option Node) → p < length w.nodes → node_at w p ≡ o → unforced (show w p r s) + cond (is_unforced_node o) 1 0 ≡ unforced w + cond (is_pending r && is_unforced s) 1 0
+unfolding unforced
+count-shown w p r s o l e = count-set is_unforced_node w.nodes p o (Some (record { rec = r; state = s })) l e
+
+pending_and : (p u : Bool) → p ≡ true → (p && u) ≡ u
+pending_and true u e = refl
+pending_and false u e = cc
+
+-- ---- steps of views
+
+-- a suspension is claimed
+pub won : (v : View) (s : Ref) (r : Rec) (g : ℕ) → s.0 < length v.seen.nodes → node_at v.seen s.0 ≡ Some (record { rec = r; state = Unforced g }) → is_pending r ≡ true → IsWon v (record v { seen = show v.seen s.0 r (Claimed g); hand = hand_won v.hand s }) s
+won v s r g l here pending =
+    let k = count-shown v.seen s.0 r (Claimed g) (Some (record { rec = r; state = Unforced g })) l here in
+    let a : cond {A = ℕ} (is_pending r && true) 1 0 ≡ 1 = ap {B = ℕ} (λ z. cond (z && true) 1 0) pending in
+    let b : cond {A = ℕ} (is_pending r && false) 1 0 ≡ 0 = ap {B = ℕ} (λ z. cond (z && false) 1 0) pending in
+    record {
+      grows = state_grows v.seen s.0 r (Claimed g) l (Unforced g) here refl (omega arith);
+      hand = refl;
+      refusals = refl;
+      about = refl;
+      alone = λ _. (record { rows = refl; named = refl }, refl, omega (arith, k, a, b));
+    }
+
+-- a claim is completed
+pub completed : (v : View) (s : ℕ) (r : Rec) (g : ℕ) (place : Ref) (steps : ℕ) → s < length v.seen.nodes → node_at v.seen s ≡ Some (record { rec = r; state = Claimed g }) → Completed v (record v { seen = show v.seen s r (Done place steps g); hand = hand_released v.hand s }) s place.0 steps
+completed v s r g place steps l here =
+    let k = count-shown v.seen s r (Done place steps g) (Some (record { rec = r; state = Claimed g })) l here in
+    record {
+      grows = state_grows v.seen s r (Done place steps g) l (Claimed g) here refl (omega arith);
+      done = done-same v.seen s r (Done place steps g) l;
+      hand = refl;
+      refusals = refl;
+      about = refl;
+      alone = λ _. (record { rows = refl; named = refl }, refl, omega (arith, k));
+    }
+
+claimed_one : (g g' : ℕ) → Claimed g ≡ Claimed g' → g ≡ g'
+claimed_one g g' e = cc
+
+-- a claim is given back
+pub released : (v : View) (s : ℕ) (r : Rec) (g : ℕ) → s < length v.seen.nodes → g < 65536 → node_at v.seen s ≡ Some (record { rec = r; state = Claimed g }) → GivenUp v (record v { seen = show v.seen s r (Unforced (min (g + 1) 65535)); hand = hand_released v.hand s }) s
+released v s r g l small here = record {
+  grows = state_grows v.seen s r (Unforced (min (g + 1) 65535)) l (Claimed g) here refl (omega arith);
+  state = λ g' e. (let same : Claimed g ≡ Claimed g' = one_value (Claimed g) (Claimed g') (sym (ap (option_map (λ (n : Node). n.state)) here) ∙ e) in rw (← claimed_one g g' same) (state-same v.seen s r (Unforced (min (g + 1) 65535)) l));
+  hand = refl;
+  refusals = refl;
+  about = refl;
+  alone = λ _. (record { rows = refl; named = refl }, refl);
+}
+
+-- a record is put
+pub put : (v : View) (p : ℕ) (r : Rec) → p < length v.seen.nodes → node_at v.seen p ≡ None → Put v (record v { seen = show v.seen p r (Unforced 0); hand = hand_put v.hand p r }) p r
+put v p r l none = record {
+  grows = put_grows v.seen p r (Unforced 0) l none;
+  here = (show_adds v.seen p r (Unforced 0) l none).there;
+  hand = refl;
+  refusals = refl;
+  about = refl;
+  alone = λ _. (refl, refl, refl);
+}
+
+-- whether a record is a later suspension doesn't hang on its place
+pub is_later-any : (p : ℕ) (r : Rec) → is_later p r ≡ is_later 0 r
+is_later-any p (recs_of.Append _ _ _ _ _) = refl
+is_later-any p (recs_of.BankRot _ _ _ _ _) = refl
+is_later-any p (recs_of.RtRot _ _ _ _ _ _) = refl
+is_later-any p (recs_of.LinkAll _ _ _ _ _) = refl
+is_later-any p (recs_of.PushL _ _ _ _ _ _ _ _) = refl
+is_later-any p (recs_of.PushR _ _ _ _ _ _ _ _) = refl
+is_later-any p (recs_of.DeepL _ _ _ _ _ _) = refl
+is_later-any p (recs_of.DeepR _ _ _ _ _ _) = refl
+is_later-any p (recs_of.Concat _ _ _ _ _ _ _) = refl
+is_later-any p _ = refl
+
+marked-newest : (b : Bool) (cs : List HeldClaim) → list_all is_marked_well cs ≡ true → list_all is_marked_well (mark_newest b cs) ≡ true
+marked-newest b [] h = refl
+marked-newest b (c ∷ cs) h = and_from _ _ (by (c.passed || b)) (and_parts (is_marked_well c) _ h).1
+  where
+    by : (x : Bool) → implies x true ≡ true
+    by true = refl
+    by false = refl
+
+length-mark : (b : Bool) (cs : List HeldClaim) → length (mark_newest b cs) ≡ length cs
+length-mark b [] = refl
+length-mark b (c ∷ cs) = refl
+
+distinct-cons : (x : ℕ) (xs : List ℕ) → contains xs x ≡ false → all_distinct xs ≡ true → all_distinct (x ∷ xs) ≡ true
+distinct-cons x xs m d = and_from _ _ (ap not m) d
+
+count-more : (nodes : List (Option Node)) (k : ℕ) → count_by is_claimed_node (nodes ++ replicate k None) ≡ count_by is_claimed_node nodes
+count-more nodes k = count-append is_claimed_node nodes (replicate k None) ∙ (rw (count-replicate is_claimed_node None k refl) (omega arith))
+
+-- states that a word can show
+
+claimed_fits : (g : ℕ) → g < 65536 → state_in_range (Claimed g) ≡ true
+claimed_fits g l = and_from _ _ (lt-ltb g 65536 l) refl
+
+unforced_fits : (g : ℕ) → g < 65536 → state_in_range (Unforced g) ≡ true
+unforced_fits g l = and_from _ _ (lt-ltb g 65536 l) refl
+
+done_fits : (place : Ref) (steps g : ℕ) → place.0 < 4194304 → steps < 4194304 → g < 65536 → state_in_range (Done place steps g) ≡ true
+done_fits place steps g l m n = and_from _ _ (lt-ltb g 65536 n) (and_from _ _ (lt-ltb steps 4194304 m) (and_from _ _ (lt-ltb place.0 4194304 l) refl))
+
+state_small : (s : SuspState) → state_in_range s ≡ true → given_up s < 65536
+state_small (Unforced g) h = ltb-true g 65536 (and_parts (ltb g 65536) _ h).0
+state_small (Claimed g) h = ltb-true g 65536 (and_parts (ltb g 65536) _ h).0
+state_small (Done place steps g) h = ltb-true g 65536 (and_parts (ltb g 65536) _ h).0
+
+-- ---- the fields
+
+module _ (capacity row_capacity : ℕ) (nodes : List (Option Node)) (claims : List HeldClaim) (rows : List (List ℕ)) (h : IsPlain capacity row_capacity nodes claims rows) (open_row : Option OpenRow) (refused : ℕ) (last : Full) where
+  -- a place in the hand is filled
+  pub put_plain : (p : ℕ) (r : Rec) → contains (free_places 0 nodes) p ≡ true → Fits (plain_view nodes claims rows open_row capacity row_capacity refused last) p r → IsPlain capacity row_capacity (slice_set nodes p (Some (record { rec = r; state = Unforced 0 }))) (mark_newest (is_later p r) claims) rows
+  put_plain p r m fits =
+      let f = free_unpublished capacity row_capacity nodes claims rows h p m in
+      let w = plain_world capacity row_capacity nodes rows in
+      let inside = inside_world capacity row_capacity nodes rows p f.0 h.fits in
+      let hand = lawful_hand capacity row_capacity nodes claims rows h open_row in
+      let new : IsSeenWell (show w p r (Unforced 0)) (mark_newest (is_later p r) claims) = put_seen w p r inside f.1 h.seen.lawful (plain_hand nodes claims rows open_row) hand h.seen fits.laws fits.origin fits.follows in
+      let none : slice_index_or nodes p None ≡ None = sym (node-drawn capacity row_capacity nodes rows p f.0) ∙ f.1 in
+      let many = count-set is_claimed_node nodes p None (Some (record { rec = r; state = Unforced 0 })) f.0 none in
+      record {
+        seen = subst (λ z. IsSeenWell z (mark_newest (is_later p r) claims)) (sym (show-drawn capacity row_capacity nodes rows p r (Unforced 0) f.0)) new;
+        marked = marked-newest (is_later p r) claims h.marked;
+        once = ap all_distinct (places-mark (is_later p r) claims) ∙ h.once;
+        many = length-mark (is_later p r) claims ∙ (h.many ∙ omega (arith, many));
+        fits = rw length-set h.fits;
+        small = h.small;
+        rows_fit = h.rows_fit;
+        rows_small = h.rows_small;
+      }
+
+  pub put_view : (p : ℕ) (r : Rec) → contains (free_places 0 nodes) p ≡ true → Put (plain_view nodes claims rows open_row capacity row_capacity refused last) (plain_view (slice_set nodes p (Some (record { rec = r; state = Unforced 0 }))) (mark_newest (is_later p r) claims) rows open_row capacity row_capacity refused last) p r
+  put_view p r m =
+      let f = free_unpublished capacity row_capacity nodes claims rows h p m in
+      let v = plain_view nodes claims rows open_row capacity row_capacity refused last in
+      let w = plain_world capacity row_capacity nodes rows in
+      let inside = inside_world capacity row_capacity nodes rows p f.0 h.fits in
+      let none : slice_index_or nodes p None ≡ None = sym (node-drawn capacity row_capacity nodes rows p f.0) ∙ f.1 in
+      let zero_plus : 0 + p ≡ p = omega arith in
+      let n : Option Node = Some (record { rec = r; state = Unforced 0 }) in
+      let free : free_places 0 (slice_set nodes p n) ≡ without p (p + 1) (free_places 0 nodes) = subst (λ z. free_places 0 (slice_set nodes p n) ≡ without z (z + 1) (free_places 0 nodes)) zero_plus (free-filled 0 p nodes (record { rec = r; state = Unforced 0 }) f.0 none) in
+      let same : plain_view (slice_set nodes p n) (mark_newest (is_later p r) claims) rows open_row capacity row_capacity refused last ≡ record v { seen = show v.seen p r (Unforced 0); hand = hand_put v.hand p r } =
+      view-same capacity row_capacity refused last (mark_newest (is_later p r) claims) open_row _ (show w p r (Unforced 0)) _ (without p (p + 1) (free_places 0 nodes)) _ (open_names 1 rows) _ (length nodes - fixed_places) _ (length rows)
+      (show-drawn capacity row_capacity nodes rows p r (Unforced 0) f.0) free refl (ap (λ z. z - fixed_places) (length-set nodes p n)) refl in
+      subst (λ t. Put v t p r) (sym same) (put v p r inside f.1)
+
+  -- the same of what the code has at hand
+  module _ (p place : ℕ) (r : Rec) (n : Option Node) (later : Bool) (claims' : List HeldClaim) (at : place ≡ p) (node : n ≡ fresh_node r) (is : later ≡ is_later 0 r) (marked : claims' ≡ mark_newest later claims) (m : contains (free_places 0 nodes) p ≡ true) where
+    pub put_plain_at : Fits (plain_view nodes claims rows open_row capacity row_capacity refused last) p r → IsPlain capacity row_capacity (slice_set nodes place n) claims' rows
+    put_plain_at fits = rw (at, node, marked, is ∙ sym (is_later-any p r)) (put_plain p r m fits)
+
+    pub put_view_at : Put (plain_view nodes claims rows open_row capacity row_capacity refused last) (plain_view (slice_set nodes place n) claims' rows open_row capacity row_capacity refused last) p r
+    put_view_at = rw (at, node, marked, is ∙ sym (is_later-any p r)) (put_view p r m)
+
+  -- a place shows another state
+  module _ (p : ℕ) (r : Rec) (old s : SuspState) (here : node_at (plain_world capacity row_capacity nodes rows) p ≡ Some (record { rec = r; state = old })) where
+    drawn : p < length nodes
+    drawn = drawn_there capacity row_capacity nodes rows p (record { rec = r; state = old }) here
+
+    pub inside : p < length (plain_world capacity row_capacity nodes rows).nodes
+    inside = inside_world capacity row_capacity nodes rows p drawn h.fits
+
+    in_list : slice_index_or nodes p None ≡ Some (record { rec = r; state = old })
+    in_list = sym (node-drawn capacity row_capacity nodes rows p drawn) ∙ here
+
+    many_after : count_by is_claimed_node (slice_set nodes p (Some (record { rec = r; state = s }))) + cond (is_claimed old) 1 0 ≡ count_by is_claimed_node nodes + cond (is_claimed s) 1 0
+    many_after = count-set is_claimed_node nodes p (Some (record { rec = r; state = old })) (Some (record { rec = r; state = s })) drawn in_list
+
+    pub state_plain : (claims' : List HeldClaim) → IsSeenWell (show (plain_world capacity row_capacity nodes rows) p r s) claims' → list_all is_marked_well claims' ≡ true → all_distinct (claim_places claims') ≡ true → length claims' + cond (is_claimed old) 1 0 ≡ length claims + cond (is_claimed s) 1 0 → IsPlain capacity row_capacity (slice_set nodes p (Some (record { rec = r; state = s }))) claims' rows
+    state_plain claims' new marked once length_is = record {
+      seen = subst (λ z. IsSeenWell z claims') (sym (show-drawn capacity row_capacity nodes rows p r s drawn)) new;
+      marked = marked;
+      once = once;
+      many = omega (arith, many_after, length_is, h.many);
+      fits = rw length-set h.fits;
+      small = h.small;
+      rows_fit = h.rows_fit;
+      rows_small = h.rows_small;
+    }
+
+    pub state_view : (claims' : List HeldClaim) → plain_view (slice_set nodes p (Some (record { rec = r; state = s }))) claims' rows open_row capacity row_capacity refused last ≡ (let v = plain_view nodes claims rows open_row capacity row_capacity refused last in record v { seen = show v.seen p r s; hand = record v.hand { claims = claims' } })
+    state_view claims' = view-same capacity row_capacity refused last claims' open_row _ (show (plain_world capacity row_capacity nodes rows) p r s) _ (free_places 0 nodes) _ (open_names 1 rows) _ (length nodes - fixed_places) _ (length rows)
+        (show-drawn capacity row_capacity nodes rows p r s drawn) (free-same 0 p nodes (record { rec = r; state = old }) (record { rec = r; state = s }) in_list) refl (ap (λ z. z - fixed_places) (length-set nodes p (Some (record { rec = r; state = s })))) refl
+
+    pub one_more : is_claimed old ≡ false → is_claimed s ≡ true → length claims < length nodes
+    one_more a b =
+        let k = count_by-le-length is_claimed_node (slice_set nodes p (Some (record { rec = r; state = s }))) in
+        let k' : count_by is_claimed_node (slice_set nodes p (Some (record { rec = r; state = s }))) ≤ length nodes = rw length-set at k in
+        let x : cond (is_claimed old) 1 0 ≡ 0 = ap {B = ℕ} (λ z. cond z 1 0) a in
+        let y : cond (is_claimed s) 1 0 ≡ 1 = ap {B = ℕ} (λ z. cond z 1 0) b in
+        omega (arith, many_after, k', x, y, h.many)
+
+  count_small : (p : ℕ) (r : Rec) (s : SuspState) → node_at (plain_world capacity row_capacity nodes rows) p ≡ Some (record { rec = r; state = s }) → given_up s < 65536
+  count_small p r s here = state_small s (h.seen.lawful.states p s (ap (option_map (λ (n : Node). n.state)) here))
+
+  -- a claim is won
+  module _ (s : Ref) (r : Rec) (g : ℕ) (here : node_at (plain_world capacity row_capacity nodes rows) s.0 ≡ Some (record { rec = r; state = Unforced g })) (pending : is_pending r ≡ true) where
+    unclaimed : contains (claim_places claims) s.0 ≡ false
+    unclaimed = h.seen.held s.0 ∙ ap is_claimed_node here
+
+    pub room_left : length claims < length nodes
+    room_left = one_more s.0 r (Unforced g) (Claimed g) here refl refl
+
+    pub won_plain : IsPlain capacity row_capacity (slice_set nodes s.0 (Some (record { rec = r; state = Claimed g }))) (fresh_claim s ∷ claims) rows
+    won_plain =
+        let w = plain_world capacity row_capacity nodes rows in
+        let l = inside s.0 r (Unforced g) (Claimed g) here in
+        let none = unforced_no_next w h.seen.lawful s.0 r g here pending in
+        let law = lawful_state w s.0 r (Unforced g) (Claimed g) l here h.seen.lawful refl (omega arith) (inl refl) pending (claimed_fits g (count_small s.0 r (Unforced g) here)) (λ d e. cc) in
+        let grows = state_grows w s.0 r (Claimed g) l (Unforced g) here refl (omega arith) in
+        state_plain s.0 r (Unforced g) (Claimed g) here (fresh_claim s ∷ claims)
+        (won_seen w s.0 r (Unforced g) (Claimed g) l here claims h.seen law grows s refl unclaimed refl none)
+        h.marked (distinct-cons s.0 (claim_places claims) unclaimed h.once) (omega arith)
+
+    pub won_view : IsWon (plain_view nodes claims rows open_row capacity row_capacity refused last) (plain_view (slice_set nodes s.0 (Some (record { rec = r; state = Claimed g }))) (fresh_claim s ∷ claims) rows open_row capacity row_capacity refused last) s
+    won_view =
+        let v = plain_view nodes claims rows open_row capacity row_capacity refused last in
+        subst (λ t. IsWon v t s) (sym (state_view s.0 r (Unforced g) (Claimed g) here (fresh_claim s ∷ claims))) (won v s r g (inside s.0 r (Unforced g) (Claimed g) here) here pending)
+
+  -- a claim leaves the hand
+  module _ (s : ℕ) (r : Rec) (g : ℕ) (here : node_at (plain_world capacity row_capacity nodes rows) s ≡ Some (record { rec = r; state = Claimed g })) where
+    held_here : contains (claim_places claims) s ≡ true
+    held_here = h.seen.held s ∙ ap is_claimed_node here
+
+    own : recs (plain_world capacity row_capacity nodes rows) s ≡ Some r
+    own = ap (option_map (λ (n : Node). n.rec)) here
+
+    pending : is_pending r ≡ true
+    pending = claimed_pending (plain_world capacity row_capacity nodes rows) h.seen.lawful s (ap is_claimed_node here) r own
+
+    released_plain : (st : SuspState) → is_claimed st ≡ false → IsLawful (show (plain_world capacity row_capacity nodes rows) s r st) → Grows (plain_world capacity row_capacity nodes rows) (show (plain_world capacity row_capacity nodes rows) s r st) → IsPlain capacity row_capacity (slice_set nodes s (Some (record { rec = r; state = st }))) (without_claim s claims) rows
+    released_plain st free law grows =
+        let w = plain_world capacity row_capacity nodes rows in
+        let l = inside s r (Claimed g) st here in
+        let y : cond (is_claimed st) 1 0 ≡ 0 = ap {B = ℕ} (λ z. cond z 1 0) free in
+        let len = length-without_claim s claims h.once held_here in
+        state_plain s r (Claimed g) st here (without_claim s claims)
+        (released_seen w s r (Claimed g) st l here claims h.seen law grows free)
+        (all-without_claim is_marked_well s claims h.marked) (distinct-without_claim s claims h.once) (omega (arith, y, len))
+
+    pub completed_plain : (place : Ref) (steps : ℕ) → MayComplete (plain_world capacity row_capacity nodes rows) s place.0 steps → steps < 4194304 → IsPlain capacity row_capacity (slice_set nodes s (Some (record { rec = r; state = Done place steps g }))) (without_claim s claims) rows
+    completed_plain place steps value few =
+        let w = plain_world capacity row_capacity nodes rows in
+        let there = published_rec (recs w) place.0 _ (value r own).value in
+        let n = rec_node w place.0 there.0 there.1 in
+        let low : place.0 < 4194304 = omega (arith, drawn_there capacity row_capacity nodes rows place.0 n.0 n.1, h.fits, h.small) in
+        let small = count_small s r (Claimed g) here in
+        let st : SuspState = Done place steps g in
+        let l = inside s r (Claimed g) st here in
+        let law = lawful_state w s r (Claimed g) st l here h.seen.lawful refl (omega arith) (inl refl) pending (done_fits place steps g low few small) (λ d e. subst (λ d. IsDoneWell w s r d) (one_value (place.0, steps) d e) (value r own)) in
+        released_plain st refl law (state_grows w s r st l (Claimed g) here refl (omega arith))
+
+    pub completed_view : (place : Ref) (steps : ℕ) → Completed (plain_view nodes claims rows open_row capacity row_capacity refused last) (plain_view (slice_set nodes s (Some (record { rec = r; state = Done place steps g }))) (without_claim s claims) rows open_row capacity row_capacity refused last) s place.0 steps
+    completed_view place steps =
+        let v = plain_view nodes claims rows open_row capacity row_capacity refused last in
+        subst (λ t. Completed v t s place.0 steps) (sym (state_view s r (Claimed g) (Done place steps g) here (without_claim s claims))) (completed v s r g place steps (inside s r (Claimed g) (Done place steps g) here) here)
+
+    pub given_up_plain : is_unbuilt (plain_hand nodes claims rows open_row) s ≡ true → IsPlain capacity row_capacity (slice_set nodes s (Some (record { rec = r; state = Unforced (min (g + 1) 65535) }))) (without_claim s claims) rows
+    given_up_plain unbuilt =
+        let small : g < 65536 = count_small s r (Claimed g) here in
+        let w = plain_world capacity row_capacity nodes rows in
+        let st : SuspState = Unforced (min (g + 1) 65535) in
+        let l = inside s r (Claimed g) st here in
+        let none = unbuilt_no_next w claims s r h.seen.well h.marked unbuilt own in
+        let law = lawful_state w s r (Claimed g) st l here h.seen.lawful refl (omega arith) (inr none) pending (unforced_fits (min (g + 1) 65535) (omega arith)) (λ d e. cc) in
+        released_plain st refl law (state_grows w s r st l (Claimed g) here refl (omega arith))
+
+    pub given_up_view : GivenUp (plain_view nodes claims rows open_row capacity row_capacity refused last) (plain_view (slice_set nodes s (Some (record { rec = r; state = Unforced (min (g + 1) 65535) }))) (without_claim s claims) rows open_row capacity row_capacity refused last) s
+    given_up_view =
+        let v = plain_view nodes claims rows open_row capacity row_capacity refused last in
+        subst (λ t. GivenUp v t s) (sym (state_view s r (Claimed g) (Unforced (min (g + 1) 65535)) here (without_claim s claims))) (released v s r g (inside s r (Claimed g) (Unforced (min (g + 1) 65535)) here) (count_small s r (Claimed g) here) here)
+
+  -- places are reserved
+  module _ (k : ℕ) (room : length nodes + k ≤ fixed_places + capacity) where
+    world_same : plain_world capacity row_capacity (nodes ++ replicate k None) rows ≡ plain_world capacity row_capacity nodes rows
+    world_same = ap (λ (ns : List (Option Node)). record { nodes = ns; rows = (plain_world capacity row_capacity nodes rows).rows }) (filled-more None (fixed_places + capacity) k nodes room)
+
+    length_after : length (nodes ++ replicate k None) ≡ length nodes + k
+    length_after = length-append nodes (replicate k None) ∙ ap (λ z. length nodes + z) (length-replicate k None)
+
+    pub reserved_plain : IsPlain capacity row_capacity (nodes ++ replicate k None) claims rows
+    reserved_plain = record {
+      seen = subst (λ z. IsSeenWell z claims) (sym world_same) h.seen;
+      marked = h.marked;
+      once = h.once;
+      many = h.many ∙ sym (count-more nodes k);
+      fits = omega (arith, length_after, room);
+      small = h.small;
+      rows_fit = h.rows_fit;
+      rows_small = h.rows_small;
+    }
+
+    pub reserved_view : (run : Span) → run.next ≡ length nodes → run.end ≡ length nodes + k → Reserved (plain_view nodes claims rows open_row capacity row_capacity refused last) (plain_view (nodes ++ replicate k None) claims rows open_row capacity row_capacity refused last) k run
+    reserved_view run next end =
+        let v = plain_view nodes claims rows open_row capacity row_capacity refused last in
+        let five = fixed_drawn capacity row_capacity nodes claims rows h in
+        let zero_plus : 0 + length nodes ≡ run.next = omega (arith, next) in
+        let free : free_places 0 (nodes ++ replicate k None) ≡ free_places 0 nodes ++ places_from run.next k = free-append 0 nodes (replicate k None) ∙ ap (λ z. free_places 0 nodes ++ z) (free-replicate (0 + length nodes) k ∙ ap (λ z. places_from z k) zero_plus) in
+        let same : plain_view (nodes ++ replicate k None) claims rows open_row capacity row_capacity refused last ≡ record v { hand = hand_reserved v.hand run.next k; drawn = v.drawn + k } =
+        view-same capacity row_capacity refused last claims open_row _ v.seen _ (free_places 0 nodes ++ places_from run.next k) _ (open_names 1 rows) _ (v.drawn + k) _ (length rows)
+        world_same free refl (omega (arith, length_after, five)) refl in
+        subst (λ t. Reserved v t k run) (sym same) (record {
+          grows = grows_refl v.seen;
+          size = omega (arith, next, end);
+          hand = refl;
+          refusals = refl;
+          about = refl;
+          unheld = λ p m. (let f = free_unpublished capacity row_capacity nodes claims rows h p m in omega (arith, f.0, next));
+          fresh = λ p r e. (let n = rec_node v.seen p r e in omega (arith, drawn_there capacity row_capacity nodes rows p n.0 n.1, next));
+          alone = λ _. (refl, refl, refl);
+        })

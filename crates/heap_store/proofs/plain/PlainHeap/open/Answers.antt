@@ -1,0 +1,21 @@
+use Rattle.std.proofs.Common.{arith, reverse, refl}
+use Rattle.heap_store.specs.Plain.{IsPlain}
+use Rattle.heap_store.proofs.PlainOpen.{opened_plain}
+use Rattle.heap_store.proofs.PlainWorlds.{plain_lawful}
+use Rattle.heap_store.proofs.plain.PlainHeap.open.Goals as goal
+use Rattle.heap_store.proofs.plain.PlainHeap.open.Goals.{After-with_fixed_records}
+
+now_plain : (c : After-with_fixed_records) → IsPlain c.args.nodes c.args.rows c.with_fixed_records.result.items (reverse c.in-Ok-with_capacity.claims.items) c.in-Ok-with_capacity-2.row_room.items
+now_plain c = rw (c.with_fixed_records.ensures.items, c.in-Ok-with_capacity.ensures.items, c.in-Ok-with_capacity-2.ensures.items) (opened_plain c.args.nodes c.args.rows c.requires.nodes c.requires.rows)
+
+pub with_fixed_records-requires : goal.with_fixed_records-requires
+with_fixed_records-requires c = record { empty = c.in-Ok.ensures.items; room = omega (arith, c.in-Ok.ensures.capacity) }
+
+pub invariant_of-result-clause-plain : goal.invariant_of-result-clause-plain
+invariant_of-result-clause-plain c = now_plain c
+
+pub invariant_of-result-clause-law : goal.invariant_of-result-clause-law
+invariant_of-result-clause-law c = plain_lawful c.args.nodes c.args.rows _ _ _ (now_plain c) _ _ _
+
+pub returns : goal.returns
+returns c = rw (c.with_fixed_records.ensures.items, c.in-Ok-with_capacity.ensures.items, c.in-Ok-with_capacity-2.ensures.items) refl

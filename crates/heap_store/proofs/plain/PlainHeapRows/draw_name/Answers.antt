@@ -1,0 +1,31 @@
+use Rattle.std.proofs.Common.{arith, ◌<◌, length, reverse}
+use Rattle.heap_store.specs.Plain.{IsPlain}
+use Rattle.heap_store.proofs.PlainRows.{named_plain, named_view}
+use Rattle.heap_store.proofs.PlainWorlds.{plain_lawful}
+use Rattle.heap_store.proofs.plain.PlainHeapRows.draw_name.Goals as goal
+use Rattle.heap_store.proofs.plain.PlainHeapRows.draw_name.Goals.{Else-drawn-self, After-add}
+
+room : (c : Else-drawn-self) → length c.args.self.now.rows.items < c.args.self.now.row_capacity
+room c = let h = c.args.self.now in omega (arith, h.plain.rows_fit, c.if-drawn-self.false, c.len-drawn.ensures, h.rows.ok.0)
+
+now_plain : (c : After-add) → IsPlain c.args.self.now.capacity c.args.self.now.row_capacity c.args.self.now.nodes.items (reverse c.args.self.now.claims.items) c.add.new.values.items
+now_plain c =
+    let h = c.args.self.now in
+    rw c.add.ensures.items (named_plain h.capacity h.row_capacity h.nodes.items (reverse h.claims.items) h.rows.items h.plain h.open_row h.refused h.last (room (goal.at.invariant_of-self-clause-plain c).Else-drawn-self))
+
+pub invariant_of-self-clause-node_room : goal.invariant_of-self-clause-node_room
+invariant_of-self-clause-node_room c = c.args.self.now.node_room
+
+pub invariant_of-self-clause-row_room : goal.invariant_of-self-clause-row_room
+invariant_of-self-clause-row_room c = omega (arith, c.add.ensures.room, c.args.self.now.row_room)
+
+pub invariant_of-self-clause-plain : goal.invariant_of-self-clause-plain
+invariant_of-self-clause-plain c = now_plain c
+
+pub invariant_of-self-clause-law : goal.invariant_of-self-clause-law
+invariant_of-self-clause-law c = let h = c.args.self.now in plain_lawful h.capacity h.row_capacity h.nodes.items (reverse h.claims.items) _ (now_plain c) h.open_row h.refused h.last
+
+pub returns-clause-ok : goal.returns-clause-ok
+returns-clause-ok c =
+    let h = c.args.self.now in
+    rw c.add.ensures.items (named_view h.capacity h.row_capacity h.nodes.items (reverse h.claims.items) h.rows.items h.plain h.open_row h.refused h.last (room (goal.at.returns-clause-ok c).Else-drawn-self) _ (omega (arith, c.len-drawn.ensures, h.rows.ok.0)))

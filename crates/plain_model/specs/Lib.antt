@@ -1,0 +1,3 @@
+pub mod Outcome
+pub mod Versions
+pub mod Laws

@@ -1,0 +1,11 @@
+//! The plain side: what every event means on plain lists, and the slow program that computes it.
+#![tactic(auto)]
+
+mod effects;
+pub mod laws;
+mod lists;
+mod runs;
+#[cfg(test)]
+mod tests;
+
+pub use runs::plain_run;

@@ -1,0 +1,83 @@
+//! The row of one event: begun, skipped and ended, word by word.
+ghost use Rattle.std.specs.Prelude.{◌≡◌, ◌<◌, ◌≤◌, true, false, Some};
+ghost use Rattle.lazy_rec.specs.declared.events.Event.{Event};
+ghost use Rattle.heap_store.specs.Rows.{Row, row_at, store_word};
+ghost use Rattle.heap_store.specs.Rows.Ending.{answered, full, memory};
+ghost use Rattle.version_book.specs.Book.{MayPut, WordPut, IsDrawn, IsNextEvent, MayBegin, Begun, MayEndRow, Ended, IsWorking, Answers, begun_row, ended_row, skipped_row, HasLostBase};
+
+use crate::words::{FULL, MEMORY, NO_BASE, REPLIED, bases_word, first_word, full_word, reply_word, version_word};
+use heap_store::{Full, Heap, Rows, Version};
+use lazy_rec::{Event, Reply};
+
+/// Stores one of words 1 to 4, which says nothing before word 0 or the end word does.
+fn put_word<R: Rows>(heap: &mut R, name: u32, word: u32, value: u64)
+    requires { MayPut (R.view heap.old) name word value }
+    ensures { WordPut (R.view heap.old) (R.view heap.new) name word value }
+{
+    heap.store_row(name, word, value);
+}
+
+/// Begins an event whose bases are answered.
+pub(crate) fn begin<R: Rows>(heap: &mut R, name: u32, event: &Event)
+    requires drawn { IsDrawn (R.view heap.old) name }
+    requires event { MayBegin (R.view heap.old) name event.now }
+    ensures { Begun (R.view heap.old) (R.view heap.new) name event.now }
+{
+    put_word(heap, name, 1, bases_word(event.base, event.other));
+    put_word(heap, name, 2, u64::from(event.arg));
+    heap.store_row(name, 0, first_word(0, event.op, true));
+}
+
+/// Stores the end word.
+fn end_row<R: Rows>(heap: &mut R, name: u32, code: u64)
+    requires { MayEndRow (R.view heap.old) name code }
+    ensures { (r : Row) → row_at (store_word (R.view heap.old).seen name 5 code) name ≡ Some r → Ended (R.view heap.old) (R.view heap.new) name r }
+{
+    heap.store_row(name, 5, code);
+}
+
+/// Ends the event with a reply and its version.
+pub(crate) fn end_with_reply<R: Rows>(heap: &mut R, reply: Reply, version: Version)
+    requires working { IsWorking (R.view heap.old) version.name false }
+    requires answers { (e : Event) → row_at (R.view heap.old).seen version.name ≡ Some (begun_row e) → Answers (R.view heap.old).seen e reply version }
+    requires place { version.root.0 < 4194304 }
+    ensures { (e : Event) → row_at (R.view heap.old).seen version.name ≡ Some (begun_row e) → Ended (R.view heap.old) (R.view heap.new) version.name (ended_row e (answered reply version)) }
+{
+    let name = version.name;
+    put_word(heap, name, 3, version_word(version.root, version.kind, version.size));
+    put_word(heap, name, 4, reply_word(reply));
+    end_row(heap, name, REPLIED);
+}
+
+/// Ends the event without a version, since its last reserve was refused.
+pub(crate) fn end_full<R: Rows>(heap: &mut R, name: u32, refusal: Full)
+    requires working { IsWorking (R.view heap.old) name true }
+    requires last { refusal ≡ (R.view heap.old).refusals.last }
+    requires drawn { refusal.drawn ≤ 260000000 }
+    requires wanted { 1 ≤ refusal.wanted }
+    ensures { (e : Event) → row_at (R.view heap.old).seen name ≡ Some (begun_row e) → Ended (R.view heap.old) (R.view heap.new) name (ended_row e (full refusal.drawn refusal.wanted)) }
+{
+    put_word(heap, name, 4, full_word(refusal));
+    end_row(heap, name, FULL);
+}
+
+/// Ends the event without a version for want of memory.
+pub(crate) fn end_for_memory<R: Rows>(heap: &mut R, name: u32)
+    requires { IsWorking (R.view heap.old) name false }
+    ensures { (e : Event) → row_at (R.view heap.old).seen name ≡ Some (begun_row e) → Ended (R.view heap.old) (R.view heap.new) name (ended_row e memory) }
+{
+    end_row(heap, name, MEMORY);
+}
+
+/// Stores that an event was skipped, since one of its bases is given up.
+pub(crate) fn skip<R: Rows>(heap: &mut R, name: u32, event: &Event)
+    requires drawn { IsDrawn (R.view heap.old) name }
+    requires event { IsNextEvent (R.view heap.old) name event.now }
+    requires lost { HasLostBase (R.view heap.old) event.now }
+    ensures { Ended (R.view heap.old) (R.view heap.new) name (skipped_row event.now) }
+{
+    put_word(heap, name, 1, bases_word(event.base, event.other));
+    put_word(heap, name, 2, u64::from(event.arg));
+    heap.store_row(name, 0, first_word(0, event.op, false));
+    end_row(heap, name, NO_BASE);
+}
