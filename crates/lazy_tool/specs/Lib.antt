@@ -1,0 +1,4 @@
+pub mod Words
+pub mod QueueText
+pub mod Outcome
+pub mod Ran
