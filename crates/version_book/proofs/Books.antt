@@ -187,14 +187,6 @@ module _ (nodes : ℕ) (events : List Event) (i : ℕ) (v : View) (law : IsLawfu
       subst (IsRun nodes events (suc k)) (one_value t.0 r (sym t.1 ∙ e)) t.2))
       (cases_lt v.named (suc k))
 
-  pub is_book : IsBook v.seen nodes events
-  is_book = record {
-    count = all ∙ h.rows;
-    events_are = λ j r e. (row_there j r e).event;
-    callers = λ j r e. (row_there j r e).caller;
-    full_where = λ j r d k e f. (row_there j r e).full_where d k f;
-  }
-
   pub is_whole : IsWhole v
   is_whole = record {
     closed = record {
@@ -210,6 +202,15 @@ module _ (nodes : ℕ) (events : List Event) (i : ℕ) (v : View) (law : IsLawfu
       });
     };
     named = omega (arith, all, h.rows, h.named, last);
+  }
+
+  pub is_book : IsBook v.seen nodes events
+  is_book = record {
+    closed = is_whole.closed;
+    count = all ∙ h.rows;
+    events_are = λ j r e. (row_there j r e).event;
+    callers = λ j r e. (row_there j r e).caller;
+    full_where = λ j r d k e f. (row_there j r e).full_where d k f;
   }
 
 pub book-of : (nodes : ℕ) (events : List Event) (h : PlainHeap) (i : ℕ) → AreRun nodes events i (view_of h) → i ≡ length events → IsBook (view_of h).seen nodes events

@@ -60,8 +60,9 @@ pub record IsWhole (v : View) : Type 0 where
   pub closed : IsClosed v.seen
   pub named : length v.seen.rows ≤ v.named
 
--- a book in which these events were run in order by one caller, in a store of so many places
+-- a closed book in which these events were run in order by one caller, in a store of so many places
 pub record IsBook (w : World) (capacity : ℕ) (events : List Event) : Type 0 where
+  pub closed : IsClosed w
   pub count : length w.rows ≡ length events
   -- row i has event i
   pub events_are : (i : ℕ) (r : Row) → row_at w i ≡ Some r → event_of events i ≡ Some r.event
