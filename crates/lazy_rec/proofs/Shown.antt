@@ -3,7 +3,7 @@ use Rattle.std.proofs.Common.{◌≡◌, ℕ, refl, ap, ◌∙◌, arith, Bool, 
 use Rattle.lazy_rec.specs.declared.records.Rec.{Rec}
 use Rattle.lazy_rec.specs.declared.records.Rec.TheVariants.{Nil, Cons, LNil, LCons, StreamTop, BankTop, RtTop, HeapTop, TNil, TCons, Tree, CatNil, CatNode, TEmpty, Leaf, Node, Digit, Single, Deep, Append, Reverse, BankRot, RtRot, HeapInsert, HeapMerge, LinkAll, PushL, PushR, DeepL, DeepR, Concat}
 use Rattle.lazy_rec.specs.Packed.{in_range, words_of}
-use Rattle.lazy_rec.specs.Shown.{at, tagged, shown}
+use Rattle.lazy_rec.specs.Shown.{at, value_at, tagged, shown}
 use Rattle.lazy_rec.proofs.FieldWords.{fields-fit}
 
 -- the words of a record show its tag
@@ -21,14 +21,14 @@ shown-words_of (Cons child v rest) h =
     let r : Rec = Cons child v rest in
     let fit = fields-fit r h in
     let ws = words_of r in
-    let e : (at ws 0 6 1 ≡ cond child 1 0) × (at ws 0 7 32 ≡ v) × (at ws 0 39 22 ≡ rest.0) = omega arith in
+    let e : (at ws 0 6 1 ≡ cond child 1 0) × (value_at ws 1 ≡ v) × (at ws 2 0 22 ≡ rest.0) = omega arith in
     picked 2 r (omega arith) (rw (e.0, e.1, e.2, flag_shown child) refl)
 shown-words_of LNil h = refl
 shown-words_of (LCons child v rest) h =
     let r : Rec = LCons child v rest in
     let fit = fields-fit r h in
     let ws = words_of r in
-    let e : (at ws 0 6 1 ≡ cond child 1 0) × (at ws 0 7 32 ≡ v) × (at ws 0 39 22 ≡ rest.0) = omega arith in
+    let e : (at ws 0 6 1 ≡ cond child 1 0) × (value_at ws 1 ≡ v) × (at ws 2 0 22 ≡ rest.0) = omega arith in
     picked 4 r (omega arith) (rw (e.0, e.1, e.2, flag_shown child) refl)
 shown-words_of (StreamTop cells total) h =
     let r : Rec = StreamTop cells total in
@@ -65,45 +65,45 @@ shown-words_of (Tree rank x kids) h =
     let r : Rec = Tree rank x kids in
     let fit = fields-fit r h in
     let ws = words_of r in
-    let e : (at ws 0 6 5 ≡ rank) × (at ws 0 11 32 ≡ x.0) × (at ws 1 0 22 ≡ kids.0) = omega arith in
+    let e : (at ws 0 6 5 ≡ rank) × (value_at ws 1 ≡ x.0) × (at ws 2 0 22 ≡ kids.0) = omega arith in
     picked 11 r (omega arith) (rw (e.0, e.1, e.2) refl)
 shown-words_of CatNil h = refl
 shown-words_of (CatNode x kids total) h =
     let r : Rec = CatNode x kids total in
     let fit = fields-fit r h in
     let ws = words_of r in
-    let e : (at ws 0 6 32 ≡ x.0) × (at ws 0 38 22 ≡ kids.0) × (at ws 1 0 31 ≡ total) = omega arith in
+    let e : (value_at ws 1 ≡ x.0) × (at ws 2 0 22 ≡ kids.0) × (at ws 2 22 31 ≡ total) = omega arith in
     picked 13 r (omega arith) (rw (e.0, e.1, e.2) refl)
 shown-words_of TEmpty h = refl
 shown-words_of (Leaf x) h =
     let r : Rec = Leaf x in
     let fit = fields-fit r h in
     let ws = words_of r in
-    let e : (at ws 0 6 32 ≡ x.0) = omega arith in
+    let e : value_at ws 1 ≡ x.0 = omega arith in
     picked 15 r (omega arith) (rw (e) refl)
 shown-words_of (Node count e1 e2 e3 total key) h =
     let r : Rec = Node count e1 e2 e3 total key in
     let fit = fields-fit r h in
     let ws = words_of r in
-    let e : (at ws 0 6 2 ≡ count) × (at ws 0 8 22 ≡ e1.0) × (at ws 0 30 22 ≡ e2.0) × (at ws 1 0 22 ≡ e3.0) × (at ws 1 22 31 ≡ total) × (at ws 2 0 32 ≡ key.0) = omega arith in
+    let e : (at ws 0 6 2 ≡ count) × (at ws 0 8 22 ≡ e1.0) × (at ws 0 30 22 ≡ e2.0) × (at ws 1 0 22 ≡ e3.0) × (at ws 1 22 31 ≡ total) × (value_at ws 2 ≡ key.0) = omega arith in
     picked 16 r (omega arith) (rw (e.0, e.1, e.2, e.3, e.4, e.5) refl)
 shown-words_of (Digit count e1 e2 e3 e4 total key) h =
     let r : Rec = Digit count e1 e2 e3 e4 total key in
     let fit = fields-fit r h in
     let ws = words_of r in
-    let e : (at ws 0 6 3 ≡ count) × (at ws 0 9 22 ≡ e1.0) × (at ws 0 31 22 ≡ e2.0) × (at ws 1 0 22 ≡ e3.0) × (at ws 1 22 22 ≡ e4.0) × (at ws 2 0 31 ≡ total) × (at ws 2 31 32 ≡ key.0) = omega arith in
+    let e : (at ws 0 6 3 ≡ count) × (at ws 0 9 22 ≡ e1.0) × (at ws 0 31 22 ≡ e2.0) × (at ws 1 0 22 ≡ e3.0) × (at ws 1 22 22 ≡ e4.0) × (at ws 2 0 31 ≡ total) × (value_at ws 3 ≡ key.0) = omega arith in
     picked 17 r (omega arith) (rw (e.0, e.1, e.2, e.3, e.4, e.5, e.6) refl)
 shown-words_of (Single elem total key) h =
     let r : Rec = Single elem total key in
     let fit = fields-fit r h in
     let ws = words_of r in
-    let e : (at ws 0 6 22 ≡ elem.0) × (at ws 0 28 31 ≡ total) × (at ws 1 0 32 ≡ key.0) = omega arith in
+    let e : (at ws 0 6 22 ≡ elem.0) × (at ws 0 28 31 ≡ total) × (value_at ws 1 ≡ key.0) = omega arith in
     picked 18 r (omega arith) (rw (e.0, e.1, e.2) refl)
 shown-words_of (Deep left middle right total key) h =
     let r : Rec = Deep left middle right total key in
     let fit = fields-fit r h in
     let ws = words_of r in
-    let e : (at ws 0 6 22 ≡ left.0) × (at ws 0 28 22 ≡ middle.0) × (at ws 1 0 22 ≡ right.0) × (at ws 1 22 31 ≡ total) × (at ws 2 0 32 ≡ key.0) = omega arith in
+    let e : (at ws 0 6 22 ≡ left.0) × (at ws 0 28 22 ≡ middle.0) × (at ws 1 0 22 ≡ right.0) × (at ws 1 22 31 ≡ total) × (value_at ws 2 ≡ key.0) = omega arith in
     picked 19 r (omega arith) (rw (e.0, e.1, e.2, e.3, e.4) refl)
 shown-words_of (Append xs ys left origin off) h =
     let r : Rec = Append xs ys left origin off in
@@ -133,7 +133,7 @@ shown-words_of (HeapInsert x list total) h =
     let r : Rec = HeapInsert x list total in
     let fit = fields-fit r h in
     let ws = words_of r in
-    let e : (at ws 0 6 32 ≡ x.0) × (at ws 0 38 22 ≡ list.0) × (at ws 1 0 31 ≡ total) = omega arith in
+    let e : (value_at ws 1 ≡ x.0) × (at ws 2 0 22 ≡ list.0) × (at ws 2 22 31 ≡ total) = omega arith in
     picked 36 r (omega arith) (rw (e.0, e.1, e.2) refl)
 shown-words_of (HeapMerge list1 list2 n1 n2) h =
     let r : Rec = HeapMerge list1 list2 n1 n2 in
@@ -151,29 +151,29 @@ shown-words_of (PushL tree count e1 e2 origin off total key) h =
     let r : Rec = PushL tree count e1 e2 origin off total key in
     let fit = fields-fit r h in
     let ws = words_of r in
-    let e : (at ws 0 6 22 ≡ tree.0) × (at ws 0 28 2 ≡ count) × (at ws 0 30 22 ≡ e1.0) × (at ws 1 0 22 ≡ e2.0) × (at ws 1 22 22 ≡ origin.0) × (at ws 1 44 5 ≡ off) × (at ws 2 0 31 ≡ total) × (at ws 2 31 32 ≡ key.0) = omega arith in
+    let e : (at ws 0 6 22 ≡ tree.0) × (at ws 0 28 2 ≡ count) × (at ws 0 30 22 ≡ e1.0) × (at ws 1 0 22 ≡ e2.0) × (at ws 1 22 22 ≡ origin.0) × (at ws 1 44 5 ≡ off) × (at ws 2 0 31 ≡ total) × (value_at ws 3 ≡ key.0) = omega arith in
     picked 39 r (omega arith) (rw (e.0, e.1, e.2, e.3, e.4, e.5, e.6, e.7) refl)
 shown-words_of (PushR tree count e1 e2 origin off total key) h =
     let r : Rec = PushR tree count e1 e2 origin off total key in
     let fit = fields-fit r h in
     let ws = words_of r in
-    let e : (at ws 0 6 22 ≡ tree.0) × (at ws 0 28 2 ≡ count) × (at ws 0 30 22 ≡ e1.0) × (at ws 1 0 22 ≡ e2.0) × (at ws 1 22 22 ≡ origin.0) × (at ws 1 44 5 ≡ off) × (at ws 2 0 31 ≡ total) × (at ws 2 31 32 ≡ key.0) = omega arith in
+    let e : (at ws 0 6 22 ≡ tree.0) × (at ws 0 28 2 ≡ count) × (at ws 0 30 22 ≡ e1.0) × (at ws 1 0 22 ≡ e2.0) × (at ws 1 22 22 ≡ origin.0) × (at ws 1 44 5 ≡ off) × (at ws 2 0 31 ≡ total) × (value_at ws 3 ≡ key.0) = omega arith in
     picked 40 r (omega arith) (rw (e.0, e.1, e.2, e.3, e.4, e.5, e.6, e.7) refl)
 shown-words_of (DeepL middle digit total origin off key) h =
     let r : Rec = DeepL middle digit total origin off key in
     let fit = fields-fit r h in
     let ws = words_of r in
-    let e : (at ws 0 6 22 ≡ middle.0) × (at ws 0 28 22 ≡ digit.0) × (at ws 1 0 31 ≡ total) × (at ws 1 31 22 ≡ origin.0) × (at ws 1 53 5 ≡ off) × (at ws 2 0 32 ≡ key.0) = omega arith in
+    let e : (at ws 0 6 22 ≡ middle.0) × (at ws 0 28 22 ≡ digit.0) × (at ws 1 0 31 ≡ total) × (at ws 1 31 22 ≡ origin.0) × (at ws 1 53 5 ≡ off) × (value_at ws 2 ≡ key.0) = omega arith in
     picked 41 r (omega arith) (rw (e.0, e.1, e.2, e.3, e.4, e.5) refl)
 shown-words_of (DeepR middle digit total origin off key) h =
     let r : Rec = DeepR middle digit total origin off key in
     let fit = fields-fit r h in
     let ws = words_of r in
-    let e : (at ws 0 6 22 ≡ middle.0) × (at ws 0 28 22 ≡ digit.0) × (at ws 1 0 31 ≡ total) × (at ws 1 31 22 ≡ origin.0) × (at ws 1 53 5 ≡ off) × (at ws 2 0 32 ≡ key.0) = omega arith in
+    let e : (at ws 0 6 22 ≡ middle.0) × (at ws 0 28 22 ≡ digit.0) × (at ws 1 0 31 ≡ total) × (at ws 1 31 22 ≡ origin.0) × (at ws 1 53 5 ≡ off) × (value_at ws 2 ≡ key.0) = omega arith in
     picked 42 r (omega arith) (rw (e.0, e.1, e.2, e.3, e.4, e.5) refl)
 shown-words_of (Concat left right list origin off total key) h =
     let r : Rec = Concat left right list origin off total key in
     let fit = fields-fit r h in
     let ws = words_of r in
-    let e : (at ws 0 6 22 ≡ left.0) × (at ws 0 28 22 ≡ right.0) × (at ws 1 0 22 ≡ list.0) × (at ws 1 22 22 ≡ origin.0) × (at ws 1 44 5 ≡ off) × (at ws 2 0 31 ≡ total) × (at ws 2 31 32 ≡ key.0) = omega arith in
+    let e : (at ws 0 6 22 ≡ left.0) × (at ws 0 28 22 ≡ right.0) × (at ws 1 0 22 ≡ list.0) × (at ws 1 22 22 ≡ origin.0) × (at ws 1 44 5 ≡ off) × (at ws 2 0 31 ≡ total) × (value_at ws 3 ≡ key.0) = omega arith in
     picked 43 r (omega arith) (rw (e.0, e.1, e.2, e.3, e.4, e.5, e.6) refl)

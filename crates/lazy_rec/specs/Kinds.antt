@@ -50,6 +50,7 @@ kinds_with ops.Concat = kinds.Seq ∷ []
 kinds_with ops.Has = kinds.Ord ∷ []
 kinds_with ops.Remove = kinds.Ord ∷ []
 kinds_with ops.Upto = kinds.Ord ∷ []
+kinds_with ops.Split = kinds.Seq ∷ []
 
 abbrev pub belongs : Kind → Op → Bool
 belongs k op = list_any (same_kind k) (kinds_with op)
@@ -76,12 +77,18 @@ uses_argument ops.Drop = true
 uses_argument ops.Has = true
 uses_argument ops.Remove = true
 uses_argument ops.Upto = true
+uses_argument ops.Split = true
 uses_argument _ = false
+
+-- the operation that makes two versions
+abbrev pub is_split : Op → Bool
+is_split ops.Split = true
+is_split _ = false
 
 abbrev pub bases_of : Op → ℕ → ℕ → List ℕ
 bases_of op base other = cond (uses_base op) (base ∷ cond (uses_other op) (other ∷ []) []) []
 
--- the names that an event uses, base first
+-- the versions that an event uses, base first
 abbrev pub bases : Event → List ℕ
 bases e = bases_of e.op e.base e.other
 

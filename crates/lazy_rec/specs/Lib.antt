@@ -2,6 +2,7 @@ pub mod Tests
 pub mod ByPlace
 pub mod Numbers
 pub mod Kinds
+pub mod Numbering
 pub mod Plain
 pub mod Due
 pub mod History

@@ -6,6 +6,7 @@ use Rattle.lazy_rec.specs.declared.records.Rec.{Rec}
 use Rattle.lazy_rec.specs.declared.records.Rec.TheVariants.{Nil, Cons, LNil, LCons, StreamTop, BankTop, RtTop, HeapTop, TNil, TCons, Tree, CatNil, CatNode, TEmpty, Leaf, Node, Digit, Single, Deep, Append, Reverse, BankRot, RtRot, HeapInsert, HeapMerge, LinkAll, PushL, PushR, DeepL, DeepR, Concat}
 use Rattle.lazy_rec.specs.declared.places.Ref.{Ref}
 use Rattle.lazy_rec.specs.declared.places.Item.{Item}
+use Rattle.lazy_rec.specs.declared.limits.TheConstants.{MOST_PLACES}
 use Rattle.lazy_rec.specs.Tests.{implies}
 
 -- ---- words made of fields
@@ -50,10 +51,10 @@ abbrev pub size : ℕ → Field
 size n = (31, n)
 
 abbrev pub value : ℕ → Field
-value n = (32, n)
+value n = (64, n)
 
 abbrev pub item : Item → Field
-item x = (32, x.0)
+item x = (64, x.0)
 
 abbrev pub small : ℕ → ℕ → Field
 small width n = (width, n)
@@ -95,8 +96,8 @@ fields (Concat left right list origin off total key) = tag 43 ∷ place left ∷
 -- what a record keeps beside the widths of its fields: the elements that a count leaves unused are 0, a child's value is a
 -- place, and a banker's queue without a rotation has 0 in the fields of one
 abbrev pub has_unused_zero : Rec → Bool
-has_unused_zero (Cons child v rest) = implies child (ltb v (2 ^ 22))
-has_unused_zero (LCons child v rest) = implies child (ltb v (2 ^ 22))
+has_unused_zero (Cons child v rest) = implies child (ltb v MOST_PLACES)
+has_unused_zero (LCons child v rest) = implies child (ltb v MOST_PLACES)
 has_unused_zero (BankTop front lenf rear lenr rotated origin n tails) = rotated || (eqb origin.0 0 && eqb n 0 && eqb tails 0)
 has_unused_zero (Node count e1 e2 e3 _ _) = leb 2 count && (ltb 2 count || eqb e3.0 0)
 has_unused_zero (Digit count e1 e2 e3 e4 _ _) = leb 1 count && leb count 4 && (ltb 3 count || eqb e4.0 0) && (ltb 2 count || eqb e3.0 0) && (ltb 1 count || eqb e2.0 0)

@@ -6,6 +6,7 @@ use Rattle.lazy_rec.specs.declared.events.Op.{Op}
 use Rattle.lazy_rec.specs.declared.events.Op.TheVariants as ops
 use Rattle.lazy_rec.specs.declared.events.Reply.{Reply}
 use Rattle.lazy_rec.specs.declared.events.Reply.TheVariants as replies
+use Rattle.lazy_rec.specs.declared.limits.TheConstants.{MOST_ITEMS}
 
 -- an item put into a rising list, after those that are not greater
 abbrev pub insert_rising : ℕ → List ℕ → List ℕ
@@ -40,7 +41,7 @@ contains x v = list_any (eqb x) v
 
 -- the most items of one version
 abbrev pub most_items : ℕ
-most_items = 2147483647
+most_items = MOST_ITEMS
 
 -- the longer list, or the base where that would have too many items
 abbrev pub grown : List ℕ → List ℕ → List ℕ × Reply
@@ -55,7 +56,7 @@ told (Some x) = replies.Number x
 abbrev pub without_item : Bool → List ℕ → List ℕ → List ℕ × Reply
 without_item has v shorter = cond has (shorter, replies.Ok) (v, replies.Empty)
 
--- the new list and the reply of an operation, from the base's list v, the other's list w and the argument x
+-- the new list, of a split the first one, and the reply of an operation, from the base's list v, the other's list w and the argument x
 abbrev pub effect : Op → List ℕ → List ℕ → ℕ → List ℕ × Reply
 effect (ops.New _) v w x = ([], replies.Ok)
 effect ops.Size v w x = (v, replies.Number (length v))
@@ -84,3 +85,9 @@ effect ops.Concat v w x = grown v (v ++ w)
 effect ops.Has v w x = (v, replies.Number (cond (contains x v) 1 0))
 effect ops.Remove v w x = without_item (contains x v) v (without_first_equal x v)
 effect ops.Upto v w x = (filter (λ y. leb y x) v, replies.Ok)
+effect ops.Split v w x = (take x v, replies.Ok)
+
+-- the list of the second version: what a split leaves behind its first one
+abbrev pub second_list : Op → List ℕ → ℕ → List ℕ
+second_list ops.Split v x = drop x v
+second_list _ v x = []

@@ -1,9 +1,9 @@
 //! Words made of fields, and the fields of a word. A field is a width in bits and a value.
 
 ghost use Rattle.std.specs.Prelude.{◌≡◌, ◌+◌, ◌/◌, ◌%◌, ◌^◌, ◌<◌, eqb, [], ◌∷◌};
-ghost use Rattle.lazy_rec.specs.Packed.{number, tag, flag, place, size, value, item, small};
+ghost use Rattle.lazy_rec.specs.Packed.{number, tag, flag, place, size, small};
 
-use crate::places::{Item, Ref};
+use crate::places::Ref;
 
 /// A field: its width in bits, and its value.
 pub(crate) type Field = (u32, u64);
@@ -85,20 +85,6 @@ pub(crate) fn size_field(n: u32) -> Field
 }
 
 #[inline(always)]
-pub(crate) fn value_field(n: u32) -> Field
-    ensures { result ≡ value n }
-{
-    (32, n as u64)
-}
-
-#[inline(always)]
-pub(crate) fn item_field(x: Item) -> Field
-    ensures { result ≡ item x }
-{
-    (32, x.0 as u64)
-}
-
-#[inline(always)]
 pub(crate) fn small_field(width: u32, n: u8) -> Field
     ensures { result ≡ small width n }
 {
@@ -129,22 +115,6 @@ pub(crate) fn size_at(word: u64, from: u32) -> u32
     ensures { result ≡ word / 2 ^ from % 2 ^ 31 }
 {
     field_at(word, from, 31) as u32
-}
-
-#[inline(always)]
-pub(crate) fn value_at(word: u64, from: u32) -> u32
-    requires { from < 32 }
-    ensures { result ≡ word / 2 ^ from % 2 ^ 32 }
-{
-    field_at(word, from, 32) as u32
-}
-
-#[inline(always)]
-pub(crate) fn item_at(word: u64, from: u32) -> Item
-    requires { from < 32 }
-    ensures { result.0 ≡ word / 2 ^ from % 2 ^ 32 }
-{
-    Item(field_at(word, from, 32) as u32)
 }
 
 #[inline(always)]

@@ -4,6 +4,8 @@
 
 pub mod events;
 mod fields;
+pub mod limits;
+pub mod names;
 pub mod numbers;
 pub mod packing;
 pub mod places;
@@ -12,8 +14,9 @@ pub mod records;
 pub mod states;
 
 pub use events::{Event, Kind, NoMemory, Op, Reply};
+pub use names::{SECOND, event_name, is_second, second_of};
 pub use numbers::{bits, ones, trailing_ones, zeros};
-pub use packing::{decode, unpack};
+pub use packing::decode;
 pub use places::{Item, Ref};
 pub use records::{Rec, Sort};
 pub use states::SuspState;

@@ -5,9 +5,10 @@ ghost use Rattle.lazy_rec.specs.Packed.{in_range, words_of};
 ghost use Rattle.lazy_rec.specs.Shown.{shown};
 
 use crate::fields::{
-    field_at, flag_at, flag_field, item_at, item_field, place_at, place_field, size_at, size_field,
-    small_at, small_field, tag_field, value_at, value_field, word2, word3, word4,
+    field_at, flag_at, flag_field, place_at, place_field, size_at, size_field, small_at,
+    small_field, tag_field, word2, word3, word4,
 };
+use crate::places::Item;
 use crate::records::Rec;
 
 impl Rec {
@@ -21,26 +22,16 @@ impl Rec {
         match *self {
             Rec::Nil => [1, 0, 0, 0],
             Rec::Cons { child, value, rest } => [
-                word4(
-                    tag_field(2),
-                    flag_field(child),
-                    value_field(value),
-                    place_field(rest),
-                ),
-                0,
-                0,
+                word2(tag_field(2), flag_field(child)),
+                value,
+                rest.0 as u64,
                 0,
             ],
             Rec::LNil => [3, 0, 0, 0],
             Rec::LCons { child, value, rest } => [
-                word4(
-                    tag_field(4),
-                    flag_field(child),
-                    value_field(value),
-                    place_field(rest),
-                ),
-                0,
-                0,
+                word2(tag_field(4), flag_field(child)),
+                value,
+                rest.0 as u64,
                 0,
             ],
             Rec::StreamTop { cells, size } => [
@@ -90,20 +81,20 @@ impl Rec {
                 0,
             ],
             Rec::Tree { rank, item, kids } => [
-                word3(tag_field(11), small_field(5, rank), item_field(item)),
+                word2(tag_field(11), small_field(5, rank)),
+                item.0,
                 kids.0 as u64,
-                0,
                 0,
             ],
             Rec::CatNil => [12, 0, 0, 0],
             Rec::CatNode { item, kids, size } => [
-                word3(tag_field(13), item_field(item), place_field(kids)),
-                size as u64,
-                0,
+                13,
+                item.0,
+                word2(place_field(kids), size_field(size)),
                 0,
             ],
             Rec::TEmpty => [14, 0, 0, 0],
-            Rec::Leaf { item } => [word2(tag_field(15), item_field(item)), 0, 0, 0],
+            Rec::Leaf { item } => [15, item.0, 0, 0],
             Rec::Node {
                 count,
                 e1,
@@ -119,7 +110,7 @@ impl Rec {
                     place_field(e2),
                 ),
                 word2(place_field(e3), size_field(size)),
-                key.0 as u64,
+                key.0,
                 0,
             ],
             Rec::Digit {
@@ -138,12 +129,12 @@ impl Rec {
                     place_field(e2),
                 ),
                 word2(place_field(e3), place_field(e4)),
-                word2(size_field(size), item_field(key)),
-                0,
+                size as u64,
+                key.0,
             ],
             Rec::Single { elem, size, key } => [
                 word3(tag_field(18), place_field(elem), size_field(size)),
-                key.0 as u64,
+                key.0,
                 0,
                 0,
             ],
@@ -156,7 +147,7 @@ impl Rec {
             } => [
                 word3(tag_field(19), place_field(left), place_field(middle)),
                 word2(place_field(right), size_field(size)),
-                key.0 as u64,
+                key.0,
                 0,
             ],
             Rec::Append {
@@ -203,9 +194,9 @@ impl Rec {
                 0,
             ],
             Rec::HeapInsert { item, list, size } => [
-                word3(tag_field(36), item_field(item), place_field(list)),
-                size as u64,
-                0,
+                36,
+                item.0,
+                word2(place_field(list), size_field(size)),
                 0,
             ],
             Rec::HeapMerge {
@@ -248,8 +239,8 @@ impl Rec {
                     place_field(e1),
                 ),
                 word3(place_field(e2), place_field(origin), small_field(5, off)),
-                word2(size_field(size), item_field(key)),
-                0,
+                size as u64,
+                key.0,
             ],
             Rec::PushR {
                 tree,
@@ -268,8 +259,8 @@ impl Rec {
                     place_field(e1),
                 ),
                 word3(place_field(e2), place_field(origin), small_field(5, off)),
-                word2(size_field(size), item_field(key)),
-                0,
+                size as u64,
+                key.0,
             ],
             Rec::DeepL {
                 middle,
@@ -281,7 +272,7 @@ impl Rec {
             } => [
                 word3(tag_field(41), place_field(middle), place_field(digit)),
                 word3(size_field(size), place_field(origin), small_field(5, off)),
-                key.0 as u64,
+                key.0,
                 0,
             ],
             Rec::DeepR {
@@ -294,7 +285,7 @@ impl Rec {
             } => [
                 word3(tag_field(42), place_field(middle), place_field(digit)),
                 word3(size_field(size), place_field(origin), small_field(5, off)),
-                key.0 as u64,
+                key.0,
                 0,
             ],
             Rec::Concat {
@@ -308,15 +299,28 @@ impl Rec {
             } => [
                 word3(tag_field(43), place_field(left), place_field(right)),
                 word3(place_field(list), place_field(origin), small_field(5, off)),
-                word2(size_field(size), item_field(key)),
-                0,
+                size as u64,
+                key.0,
             ],
+        }
+    }
+
+    /// The record in range that packs to these words, or none where no record does.
+    pub fn unpack(words: [u64; 4]) -> Option<Rec>
+        ensures some { IfSome result (λ r. (in_range r ≡ true) × (words ≡ words_of r)) }
+        ensures none { IfNone result ((r : Rec) → in_range r ≡ true → words ≡ words_of r → ⊥) }
+    {
+        let rec = decode(words);
+        if rec.fits() && rec.pack() == words {
+            Some(rec)
+        } else {
+            None
         }
     }
 }
 
 /// The record that these words show. It is the record that packs to them, where one in range does; at other words it is
-/// some record or other, and `unpack` tells them apart.
+/// some record or other, and `Rec::unpack` tells them apart.
 #[inline(always)]
 pub fn decode(words: [u64; 4]) -> Rec
     ensures shown { result ≡ shown words }
@@ -334,14 +338,14 @@ fn shown(words: [u64; 4]) -> Rec
     match field_at(first, 0, 6) {
         2 => Rec::Cons {
             child: flag_at(first, 6),
-            value: value_at(first, 7),
-            rest: place_at(first, 39),
+            value: second,
+            rest: place_at(third, 0),
         },
         3 => Rec::LNil,
         4 => Rec::LCons {
             child: flag_at(first, 6),
-            value: value_at(first, 7),
-            rest: place_at(first, 39),
+            value: second,
+            rest: place_at(third, 0),
         },
         5 => Rec::StreamTop {
             cells: place_at(first, 6),
@@ -376,26 +380,24 @@ fn shown(words: [u64; 4]) -> Rec
         },
         11 => Rec::Tree {
             rank: small_at(first, 6, 5),
-            item: item_at(first, 11),
-            kids: place_at(second, 0),
+            item: Item(second),
+            kids: place_at(third, 0),
         },
         12 => Rec::CatNil,
         13 => Rec::CatNode {
-            item: item_at(first, 6),
-            kids: place_at(first, 38),
-            size: size_at(second, 0),
+            item: Item(second),
+            kids: place_at(third, 0),
+            size: size_at(third, 22),
         },
         14 => Rec::TEmpty,
-        15 => Rec::Leaf {
-            item: item_at(first, 6),
-        },
+        15 => Rec::Leaf { item: Item(second) },
         16 => Rec::Node {
             count: small_at(first, 6, 2),
             e1: place_at(first, 8),
             e2: place_at(first, 30),
             e3: place_at(second, 0),
             size: size_at(second, 22),
-            key: item_at(third, 0),
+            key: Item(third),
         },
         17 => Rec::Digit {
             count: small_at(first, 6, 3),
@@ -404,19 +406,19 @@ fn shown(words: [u64; 4]) -> Rec
             e3: place_at(second, 0),
             e4: place_at(second, 22),
             size: size_at(third, 0),
-            key: item_at(third, 31),
+            key: Item(fourth),
         },
         18 => Rec::Single {
             elem: place_at(first, 6),
             size: size_at(first, 28),
-            key: item_at(second, 0),
+            key: Item(second),
         },
         19 => Rec::Deep {
             left: place_at(first, 6),
             middle: place_at(first, 28),
             right: place_at(second, 0),
             size: size_at(second, 22),
-            key: item_at(third, 0),
+            key: Item(third),
         },
         32 => Rec::Append {
             xs: place_at(first, 6),
@@ -445,9 +447,9 @@ fn shown(words: [u64; 4]) -> Rec
             off: size_at(third, 22),
         },
         36 => Rec::HeapInsert {
-            item: item_at(first, 6),
-            list: place_at(first, 38),
-            size: size_at(second, 0),
+            item: Item(second),
+            list: place_at(third, 0),
+            size: size_at(third, 22),
         },
         37 => Rec::HeapMerge {
             list1: place_at(first, 6),
@@ -470,7 +472,7 @@ fn shown(words: [u64; 4]) -> Rec
             origin: place_at(second, 22),
             off: small_at(second, 44, 5),
             size: size_at(third, 0),
-            key: item_at(third, 31),
+            key: Item(fourth),
         },
         40 => Rec::PushR {
             tree: place_at(first, 6),
@@ -480,7 +482,7 @@ fn shown(words: [u64; 4]) -> Rec
             origin: place_at(second, 22),
             off: small_at(second, 44, 5),
             size: size_at(third, 0),
-            key: item_at(third, 31),
+            key: Item(fourth),
         },
         41 => Rec::DeepL {
             middle: place_at(first, 6),
@@ -488,7 +490,7 @@ fn shown(words: [u64; 4]) -> Rec
             size: size_at(second, 0),
             origin: place_at(second, 31),
             off: small_at(second, 53, 5),
-            key: item_at(third, 0),
+            key: Item(third),
         },
         42 => Rec::DeepR {
             middle: place_at(first, 6),
@@ -496,7 +498,7 @@ fn shown(words: [u64; 4]) -> Rec
             size: size_at(second, 0),
             origin: place_at(second, 31),
             off: small_at(second, 53, 5),
-            key: item_at(third, 0),
+            key: Item(third),
         },
         43 => Rec::Concat {
             left: place_at(first, 6),
@@ -505,22 +507,9 @@ fn shown(words: [u64; 4]) -> Rec
             origin: place_at(second, 22),
             off: small_at(second, 44, 5),
             size: size_at(third, 0),
-            key: item_at(third, 31),
+            key: Item(fourth),
         },
         _ => Rec::Nil,
-    }
-}
-
-/// The record in range that packs to these words, or none where no record does.
-pub fn unpack(words: [u64; 4]) -> Option<Rec>
-    ensures some { IfSome result (λ r. (in_range r ≡ true) × (words ≡ words_of r)) }
-    ensures none { IfNone result ((r : Rec) → in_range r ≡ true → words ≡ words_of r → ⊥) }
-{
-    let rec = decode(words);
-    if rec.fits() && rec.pack() == words {
-        Some(rec)
-    } else {
-        None
     }
 }
 

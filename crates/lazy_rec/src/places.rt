@@ -6,4 +6,4 @@ pub struct Ref(pub u32);
 
 /// One item of a structure.
 #[derive(Clone, Copy, Debug, PartialEq, Eq)]
-pub struct Item(pub u32);
+pub struct Item(pub u64);

@@ -4,6 +4,7 @@ ghost use Rattle.std.specs.Prelude.{◌≡◌, ◌^◌, eqb, leb, ltb, ◌&&◌,
 ghost use Rattle.lazy_rec.specs.Tests.{implies};
 ghost use Rattle.lazy_rec.specs.Packed.{place, size, item, fits_field, in_range};
 
+use crate::limits::MOST_PLACES;
 use crate::places::{Item, Ref};
 use crate::records::Rec;
 
@@ -19,7 +20,7 @@ fn is_size(n: u32) -> bool
     n < 1 << 31
 }
 
-/// Always true: an item has 32 bits.
+/// Always true: an item has 64 bits.
 fn is_item(x: Item) -> bool
     ensures { result ≡ fits_field (item x) }
 {
@@ -28,10 +29,10 @@ fn is_item(x: Item) -> bool
 }
 
 /// A child's value is a place.
-fn is_entry(child: bool, value: u32) -> bool
-    ensures { result ≡ implies child (ltb value (2 ^ 22)) }
+fn is_entry(child: bool, value: u64) -> bool
+    ensures { result ≡ implies child (ltb value MOST_PLACES) }
 {
-    !child || value < 1 << 22
+    !child || value < u64::from(MOST_PLACES)
 }
 
 /// A node has two or three elements, and an unused one is 0.

@@ -26,13 +26,13 @@ pub enum Rec {
     Nil,
     Cons {
         child: bool,
-        value: u32,
+        value: u64,
         rest: Ref,
     },
     LNil,
     LCons {
         child: bool,
-        value: u32,
+        value: u64,
         rest: Ref,
     },
     StreamTop {

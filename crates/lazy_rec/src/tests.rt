@@ -1,7 +1,9 @@
 //! Worked values of the tables: words, digits, steps, and one record of each tag.
 
+use crate::events::{Kind, Op};
+use crate::names::{event_name, is_second, second_of};
 use crate::numbers::{bits, ones, trailing_ones, zeros};
-use crate::packing::{decode, unpack};
+use crate::packing::decode;
 use crate::places::{Item, Ref};
 use crate::records::{Rec, Sort};
 use crate::states::SuspState;
@@ -42,7 +44,7 @@ fn records() -> [(Rec, u64, Sort, u64); 32] {
         (
             Rec::LCons {
                 child: false,
-                value: 4294967295,
+                value: 18446744073709551615,
                 rest: Ref(1),
             },
             4,
@@ -347,7 +349,7 @@ fn packs_each_tag(rt: HostRuntime) {
         assert!(rt; rec.fits(), "{rec:?}");
         let words = rec.pack();
         assert_eq!(rt; words[0] & 63, tag, "{rec:?}");
-        assert_eq!(rt; unpack(words), Some(rec));
+        assert_eq!(rt; Rec::unpack(words), Some(rec));
         assert_eq!(rt; decode(words), rec);
         assert_eq!(rt; rec.sort(), sort, "{rec:?}");
         assert_eq!(rt; rec.is_pending(), tag >= 32, "{rec:?}");
@@ -358,9 +360,15 @@ fn packs_each_tag(rt: HostRuntime) {
 #[test]
 fn reads_words(rt: HostRuntime) {
     let read = [
-        ([335, 0, 0, 0], Rec::Leaf { item: Item(5) }),
+        ([15, 5, 0, 0], Rec::Leaf { item: Item(5) }),
         (
-            [1099511628226, 0, 0, 0],
+            [15, 18446744073709551615, 0, 0],
+            Rec::Leaf {
+                item: Item(18446744073709551615),
+            },
+        ),
+        (
+            [66, 3, 2, 0],
             Rec::Cons {
                 child: true,
                 value: 3,
@@ -381,7 +389,15 @@ fn reads_words(rt: HostRuntime) {
             },
         ),
         (
-            [2684354663, 87960946999299, 15032385542, 0],
+            [36, 1, 29360130, 0],
+            Rec::HeapInsert {
+                item: Item(1),
+                list: Ref(2),
+                size: 7,
+            },
+        ),
+        (
+            [2684354663, 87960946999299, 6, 7],
             Rec::PushL {
                 tree: Ref(1),
                 count: 2,
@@ -395,20 +411,26 @@ fn reads_words(rt: HostRuntime) {
         ),
     ];
     for (words, rec) in read {
-        assert_eq!(rt; unpack(words), Some(rec));
+        assert_eq!(rt; Rec::unpack(words), Some(rec));
         assert!(rt; rec.fits(), "{rec:?}");
         assert_eq!(rt; rec.pack(), words, "{rec:?}");
     }
-    let refused: [([u64; 4], &'static str); 19] = [
+    let refused: [([u64; 4], &'static str); 26] = [
         ([0, 0, 0, 0], "no tag 0"),
         ([20, 0, 0, 0], "no tag 20"),
         ([44, 0, 0, 0], "no tag 44"),
         ([65, 0, 0, 0], "an unused bit after a tag"),
-        ([274877906944 + 335, 0, 0, 0], "an unused bit after an item"),
-        ([335, 1, 0, 0], "an unused word"),
+        ([79, 5, 0, 0], "an unused bit before an item"),
+        ([15, 5, 1, 0], "an unused word after an item"),
+        ([14, 1, 0, 0], "an unused word"),
         ([5, 0, 0, 1], "an unused last word"),
-        ([536870978, 0, 0, 0], "a child that is no place"),
-        ([536870980, 0, 0, 0], "a child that is no place, in a list"),
+        ([66, 4194304, 0, 0], "a child that is no place"),
+        ([68, 4194304, 0, 0], "a child that is no place, in a list"),
+        ([2, 0, 4194304, 0], "a place of 23 bits"),
+        ([36, 0, 9007199254740992, 0], "a size of 32 bits"),
+        ([8, 64, 0, 0], "64 units owed"),
+        ([2059, 0, 0, 0], "a rank of 32"),
+        ([268435495, 562949953421312, 0, 0], "an offset of 32"),
         ([6, 0, 1, 0], "an origin without a rotation"),
         ([6, 0, 4194304, 0], "a size of the rear without a rotation"),
         ([80, 0, 0, 0], "a node of one element"),
@@ -417,11 +439,12 @@ fn reads_words(rt: HostRuntime) {
         ([337, 0, 0, 0], "a digit of five elements"),
         ([2147483729, 0, 0, 0], "a second element in a digit of one"),
         ([209, 4194304, 0, 0], "a fourth element in a digit of three"),
+        ([39, 0, 0, 0], "no element pushed"),
         ([805306407, 0, 0, 0], "three elements pushed"),
         ([268435496, 1, 0, 0], "a second element where one is pushed"),
     ];
     for (words, why) in refused {
-        assert_eq!(rt; unpack(words), None, "{why}");
+        assert_eq!(rt; Rec::unpack(words), None, "{why}");
     }
 }
 
@@ -450,4 +473,38 @@ fn reads_states(rt: HostRuntime) {
     for word in [2, 4611686018427387904, 9223372036854775811, 262144, 262145] {
         assert_eq!(rt; SuspState::of_word(word), None, "{word}");
     }
+}
+
+#[test]
+fn numbers_operations(rt: HostRuntime) {
+    let table = [
+        (0, None),
+        (1, Some(Op::Size)),
+        (26, Some(Op::Upto)),
+        (27, Some(Op::Split)),
+        (28, None),
+        (31, None),
+        (32, Some(Op::New(Kind::Stream))),
+        (39, Some(Op::New(Kind::Cat))),
+        (40, None),
+    ];
+    for (number, op) in table {
+        assert_eq!(rt; Op::of_number(number), op, "{number}");
+        if let Some(op) = op {
+            assert_eq!(rt; op.number(), number, "{op:?}");
+        }
+    }
+    assert_eq!(rt; Kind::of_number(4), Some(Kind::Seq));
+    assert_eq!(rt; Kind::of_number(8), None);
+    assert!(rt; Kind::Seq.has(Op::Split));
+    assert!(rt; !Kind::Ord.has(Op::Split));
+}
+
+#[test]
+fn names_versions(rt: HostRuntime) {
+    for (version, name, second) in [(4, 4, false), (2147483652, 4, true)] {
+        assert_eq!(rt; event_name(version), name, "{version}");
+        assert_eq!(rt; is_second(version), second, "{version}");
+    }
+    assert_eq!(rt; second_of(4), 2147483652);
 }
