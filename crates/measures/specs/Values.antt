@@ -9,7 +9,7 @@ use Rattle.std.proofs.lemmas.List.Sums.{sum_by-append, sum_by-cons}
 
 -- each is 0, or one more than an item
 abbrev pub is_key : ℕ → Bool
-is_key value = nat_le value (2 ^ 32)
+is_key value = nat_le value (2 ^ 64)
 
 abbrev pub are_keys : List ℕ → Bool
 are_keys values = list_all is_key values

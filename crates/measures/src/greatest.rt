@@ -6,7 +6,7 @@ ghost use Rattle.measures.specs.Values.{are_keys, keys_join_by_max, keys_with_no
 use crate::Measure;
 use lazy_rec::Item;
 
-/// One more than the greatest item, or 0 where there is none. Its values are 0 to 2^32.
+/// One more than the greatest item, or 0 where there is none. Its values are 0 to 2^64.
 pub struct Greatest;
 
 impl Measure for Greatest {
@@ -18,16 +18,16 @@ impl Measure for Greatest {
 
     ghost item_value = { λ item. item.0 + 1 };
 
-    fn unit() -> u64 {
+    fn unit() -> u128 {
         0
     }
 
-    fn join(a: u64, b: u64) -> u64 {
+    fn join(a: u128, b: u128) -> u128 {
         a.max(b)
     }
 
-    fn of(item: Item) -> u64 {
-        item.0 as u64 + 1
+    fn of(item: Item) -> u128 {
+        item.0 as u128 + 1
     }
 
     ghost is_associative = { λ a b c _. max_is_associative a b c };

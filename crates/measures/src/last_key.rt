@@ -6,7 +6,7 @@ ghost use Rattle.measures.specs.Values.{are_keys, last_key, keys_join_by_last, k
 use crate::Measure;
 use lazy_rec::Item;
 
-/// One more than the last item, or 0 where there is none. Its values are 0 to 2^32.
+/// One more than the last item, or 0 where there is none. Its values are 0 to 2^64.
 pub struct LastKey;
 
 impl Measure for LastKey {
@@ -18,16 +18,16 @@ impl Measure for LastKey {
 
     ghost item_value = { λ item. item.0 + 1 };
 
-    fn unit() -> u64 {
+    fn unit() -> u128 {
         0
     }
 
-    fn join(a: u64, b: u64) -> u64 {
+    fn join(a: u128, b: u128) -> u128 {
         if b > 0 { b } else { a }
     }
 
-    fn of(item: Item) -> u64 {
-        item.0 as u64 + 1
+    fn of(item: Item) -> u128 {
+        item.0 as u128 + 1
     }
 
     ghost is_associative = { λ a b c _. last_is_associative a b c };

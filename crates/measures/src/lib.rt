@@ -27,16 +27,16 @@ pub trait Measure {
     ghost item_value: { Item → ℕ };
 
     /// The value of no item.
-    fn unit() -> u64
+    fn unit() -> u128
         ensures { result ≡ unit_value };
 
     /// The value of two parts side by side, from theirs.
-    fn join(a: u64, b: u64) -> u64
+    fn join(a: u128, b: u128) -> u128
         requires { AreValues (a ∷ b ∷ []) }
         ensures { result ≡ joined a b };
 
     /// The value of one item.
-    fn of(item: Item) -> u64
+    fn of(item: Item) -> u128
         ensures { result ≡ item_value item };
 
     ghost is_associative: { (a b c : ℕ) → AreValues (a ∷ b ∷ c ∷ []) → joined (joined a b) c ≡ joined a (joined b c) };
@@ -46,7 +46,7 @@ pub trait Measure {
     ghost unit_on_the_right: { (a : ℕ) → AreValues (a ∷ []) → joined a unit_value ≡ a };
 
     // one item has a value
-    ghost item_is_value: { (item : Item) → item.0 < 2 ^ 32 → AreValues (item_value item ∷ []) };
+    ghost item_is_value: { (item : Item) → item.0 < 2 ^ 64 → AreValues (item_value item ∷ []) };
 
     // neighbours that are joined have a value, beside all other parts
     ghost join_is_value: { (before : List ℕ) (a b : ℕ) (after : List ℕ) → AreValues (before ++ a ∷ b ∷ after) → AreValues (before ++ joined a b ∷ after) };
@@ -59,7 +59,7 @@ pub trait Measure {
 }
 
 /// The value of a row of items.
-pub fn measured<M: Measure>(items: &[Item]) -> u64
+pub fn measured<M: Measure>(items: &[Item]) -> u128
     requires { M.AreValues (map M.item_value items.now) }
     ensures { result ≡ fold M.joined M.unit_value (map M.item_value items.now) }
 {
@@ -89,8 +89,8 @@ mod tests {
         assert_eq!(rt; measured::<Size>(&[]), 0);
         assert_eq!(rt; measured::<Greatest>(&[]), 0);
         assert_eq!(rt; measured::<LastKey>(&[]), 0);
-        let items = [Item(u32::MAX), Item(0)];
-        assert_eq!(rt; measured::<Greatest>(&items), 4_294_967_296);
+        let items = [Item(u64::MAX), Item(0)];
+        assert_eq!(rt; measured::<Greatest>(&items), 18_446_744_073_709_551_616);
         assert_eq!(rt; measured::<LastKey>(&items), 1);
     }
 }

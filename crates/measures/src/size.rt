@@ -18,15 +18,15 @@ impl Measure for Size {
 
     ghost item_value = { λ _. 1 };
 
-    fn unit() -> u64 {
+    fn unit() -> u128 {
         0
     }
 
-    fn join(a: u64, b: u64) -> u64 {
+    fn join(a: u128, b: u128) -> u128 {
         a + b
     }
 
-    fn of(_item: Item) -> u64 {
+    fn of(_item: Item) -> u128 {
         1
     }
 
