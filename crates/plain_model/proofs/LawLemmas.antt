@@ -10,7 +10,8 @@ use Rattle.lazy_rec.specs.declared.events.Reply.{Reply}
 use Rattle.lazy_rec.specs.declared.events.Reply.TheVariants as replies
 use Rattle.plain_model.specs.Laws.{list_after, reply_of, after_snocs}
 use Rattle.plain_model.proofs.Growth.{grown-allowed}
-use Rattle.plain_model.proofs.RisingLists.{is_rising, is_rising-IsNonDecreasing, rising-same, times-IsPermutation, length-rising}
+use Rattle.plain_model.proofs.RisingLists.{is_rising, is_rising-IsNonDecreasing, rising-same, times-IsPermutation}
+use Rattle.lazy_rec.proofs.PlainLaws.{length-rising}
 
 -- what begins with y goes on to begin with y
 begins : (b : Bool) (y : ℕ) (v longer : List ℕ) (xs : List ℕ) → ((w : List ℕ) → slice_get (after_snocs (y ∷ w) xs) 0 ≡ Some y) → slice_get (after_snocs (cond {A = List ℕ × Reply} b (y ∷ longer, replies.Ok) (y ∷ v, replies.TooLong)).0 xs) 0 ≡ Some y

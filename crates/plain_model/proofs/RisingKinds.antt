@@ -1,8 +1,8 @@
 -- The lists of heaps, priority queues and ordered sequences never fall.
-use Rattle.std.proofs.Common.{◌≡◌, ℕ, zero, suc, ◌-◌, ◌<◌, eqb, leb, Bool, true, false, cond, ◌&&◌, ◌||◌, List, [], ◌∷◌, ◌++◌, length, drop, get_or, refl, ap, sym, ◌∙◌, subst, arith, ◌⊎◌, inl, inr, ⊎_elim, Option, Some, None}
+use Rattle.std.proofs.Common.{◌≡◌, ℕ, zero, suc, ◌-◌, ◌<◌, eqb, leb, Bool, true, false, cond, List, [], ◌∷◌, ◌++◌, length, drop, get_or, refl, sym, ◌∙◌, subst, arith, ◌⊎◌, inl, inr, ⊎_elim, Option, Some, None}
 use Rattle.std.specs.List.{list_all, list_any}
 use Rattle.std.specs.List.Sorted.{IsNonDecreasing}
-use Rattle.std.proofs.lemmas.Bool.{cases_Bool, leb-true, and_parts, and_from, or_cases, or_left, or_right, eqb-true, false≢true}
+use Rattle.std.proofs.lemmas.Bool.{cases_Bool, leb-true, and_parts, and_from, or_cases, or_left, or_right, false≢true}
 use Rattle.std.proofs.lemmas.List.Recursion.{and_at}
 use Rattle.std.proofs.lemmas.List.Sorted.{IsNonDecreasingBy-take, IsNonDecreasingBy-drop}
 use Rattle.std.proofs.lemmas.List.Kept.{IsNonDecreasingBy-filter}
@@ -11,15 +11,15 @@ use Rattle.lazy_rec.specs.declared.events.Op.{Op}
 use Rattle.lazy_rec.specs.declared.events.Op.TheVariants as ops
 use Rattle.lazy_rec.specs.declared.events.Event.{Event}
 use Rattle.lazy_rec.specs.declared.events.Reply.{Reply}
-use Rattle.lazy_rec.specs.ByPlace.{below, by_place}
-use Rattle.lazy_rec.specs.Tests.{is_some_and}
-use Rattle.lazy_rec.specs.Kinds.{kind_number, same_kind, kinds_with, belongs, uses_base, uses_other, is_trim}
-use Rattle.lazy_rec.specs.Plain.{effect, without_last, without_first_equal, has_item, contains, rising, insert_rising, most_items}
-use Rattle.lazy_rec.specs.History.{Events, event_of, plain, list_made, kind_of, kind_made, new_kind, IsScript, is_of_its_kind, has_smaller_bases}
+use Rattle.lazy_rec.specs.Kinds.{same_kind, kinds_with, uses_base}
+use Rattle.lazy_rec.specs.Plain.{effect, second_list, without_last, without_first_equal, has_item, contains, rising, insert_rising, most_items}
+use Rattle.lazy_rec.specs.History.{event_of, event_name, lists, plain, kind_of, is_smaller, IsScript}
+use Rattle.lazy_rec.proofs.ByPlaceLaws.{from_lower}
+use Rattle.lazy_rec.proofs.NumberLaws.{same_kind-eq}
+use Rattle.lazy_rec.proofs.HistoryLaws.{stands, base_passes, smaller-lt, kind-if_base, kind-has_op, kind_is, lists_is, lists_none, HoldsOfBoth, picked_holds}
 use Rattle.plain_model.specs.Laws.{keeps_order}
 use Rattle.plain_model.proofs.ByPlaces.{without_last-take}
 use Rattle.plain_model.proofs.RisingLists.{is_rising, is_rising-IsNonDecreasing, is_rising-insert_rising, is_rising-rising}
-use Rattle.plain_model.proofs.NamedLists.{below-by_place, plain-event, smaller-bases}
 
 nothing-rises : IsNonDecreasing []
 nothing-rises i j d l h = absurd (omega arith)
@@ -75,9 +75,7 @@ effect-rises ops.Upto v w x o r = IsNonDecreasingBy-filter (λ (y : ℕ). y) (λ
 effect-rises _ v w x o r = absurd (false≢true o)
 
 keeps_order-same : (k l : Kind) → same_kind k l ≡ true → keeps_order k ≡ true → keeps_order l ≡ true
-keeps_order-same k l s o =
-    let e : kind_number k ≡ kind_number l = eqb-true (kind_number k) (kind_number l) s in
-    subst (λ (n : ℕ). (eqb n 3 || (eqb n 5 || (eqb n 6 || false))) ≡ true) e o
+keeps_order-same k l s o = subst (λ (kind : Kind). keeps_order kind ≡ true) (same_kind-eq k l s) o
 
 ordered-among : (k : Kind) (ks : List Kind) → keeps_order k ≡ true → list_any (same_kind k) ks ≡ true → list_any keeps_order ks ≡ true
 ordered-among k [] o h = h
@@ -87,59 +85,45 @@ ordered-among k (l ∷ ls) o h =
     (λ t. or_right (keeps_order l) (list_any keeps_order ls) (ordered-among k ls o t))
     (or_cases (same_kind k l) (list_any (same_kind k) ls) h)
 
--- the kind of an event's name is that of `new`, else that of its base
-kind-event : (events : Events) (i : ℕ) (e : Event) → events i ≡ Some e → e.base < i → kind_of events i ≡ new_kind e.op (kind_of events e.base)
-unfolding kind_of by_place
-kind-event events i e h b =
-    let step : (ℕ → Option Kind) → ℕ → Option Kind = λ lower j. kind_made lower (events j) in
-    let lower = below None step i in
-    ap (kind_made lower) h ∙ ap (new_kind e.op) (below-by_place None step i e.base b)
+-- no kind in rising order has the operation that makes a second list
+second-rises : (op : Op) (v : List ℕ) (x : ℕ) → is_ordered op ≡ true → IsNonDecreasing (second_list op v x)
+second-rises ops.Split v x o = absurd (false≢true o)
+second-rises _ v x o = nothing-rises
 
--- `new` makes an empty list, and any other operation has a base and keeps its kind
-new_or_not : (op : Op) → ((v w : List ℕ) (x : ℕ) → IsNonDecreasing (effect op v w x).0) ⊎ ((uses_base op ≡ true) × ((o : Option Kind) → new_kind op o ≡ o))
-new_or_not (ops.New k) = inl (λ v w x. nothing-rises)
-new_or_not _ = inr (refl, λ o. refl)
+-- both lists of a name rise
+abbrev BothRise : List ℕ × List ℕ → Type 0
+BothRise = HoldsOfBoth IsNonDecreasing
 
-first-passes : (used : Bool) (p : ℕ → Bool) (b : ℕ) (others : List ℕ) → used ≡ true → list_all p (cond used (b ∷ others) []) ≡ true → p b ≡ true
-first-passes true p b others u h = (and_parts (p b) (list_all p others) h).0
-first-passes false p b others u h = absurd (false≢true u)
-
-of_its_kind : (events : Events) (e : Event) (k : Kind) → is_of_its_kind events e ≡ true → uses_base e.op ≡ true → kind_of events e.base ≡ Some k → belongs k e.op ≡ true
-of_its_kind events e k h u g =
-    let test : Option Kind → Bool = is_some_and (λ l. belongs l e.op && is_some_and (same_kind l) (kind_of events e.base)) in
-    let p : test (kind_of events e.base) ≡ true = first-passes (uses_base e.op) (λ b. test (kind_of events b)) e.base (cond (uses_other e.op) (e.other ∷ []) []) u h in
-    let q : test (Some k) ≡ true = subst (λ (o : Option Kind). test o ≡ true) g p in
-    (and_parts (belongs k e.op) (is_some_and (same_kind k) (kind_of events e.base)) q).0
+-- `new` makes empty lists, and any other operation has a base
+new_or_not : (op : Op) → ((v w : List ℕ) (x : ℕ) → BothRise ((effect op v w x).0, second_list op v x)) ⊎ (uses_base op ≡ true)
+new_or_not (ops.New k) = inl (λ v w x. (nothing-rises, nothing-rises))
+new_or_not _ = inr refl
 
 abbrev Rises : List Event → ℕ → Type 0
-Rises events n = (k : Kind) → kind_of (event_of events) n ≡ Some k → keeps_order k ≡ true → IsNonDecreasing (plain (event_of events) n)
+Rises events n = (k : Kind) → kind_of (event_of events) n ≡ Some k → keeps_order k ≡ true → BothRise (lists (event_of events) n)
 
-plain-none : (events : Events) (i : ℕ) → events i ≡ None → plain events i ≡ []
-unfolding plain by_place
-plain-none events i h = ap (list_made (below [] (λ lower j. list_made lower (events j)) i)) h
+version-rises : (events : List Event) (v : ℕ) → BothRise (lists (event_of events) (event_name v)) → IsNonDecreasing (plain (event_of events) v)
+unfolding plain
+version-rises events v both = picked_holds IsNonDecreasing (lists (event_of events)) v both
 
-rises-event : (events : List Event) → IsScript events → (i : ℕ) (e : Event) → event_of events (suc i) ≡ Some e → ((m : ℕ) → m < suc i → Rises events m) → Rises events (suc i)
+rises-event : (events : List Event) → IsScript events → (i : ℕ) (e : Event) → event_of events i ≡ Some e → ((m : ℕ) → m < i → Rises events m) → Rises events i
 rises-event events s i e h lower k g o =
-    let b = smaller-bases events s i e h in
-    let made = plain-event (event_of events) (suc i) e h b.0 b.1 in
-    let parts = and_parts (is_trim e && has_smaller_bases (suc i) e) (is_of_its_kind (event_of events) e) (s.each (suc i) e h) in
-    subst IsNonDecreasing (sym made)
+    let at = stands (event_of events) i e (s.each i e h) in
+    subst BothRise (sym (lists_is (event_of events) i e h at.smaller))
     (⊎_elim
     (λ new. new (plain (event_of events) e.base) (plain (event_of events) e.other) e.arg)
-    (λ (old : (uses_base e.op ≡ true) × ((o : Option Kind) → new_kind e.op o ≡ o)).
-    let same : kind_of (event_of events) e.base ≡ Some k = sym (old.1 (kind_of (event_of events) e.base)) ∙ (sym (kind-event (event_of events) (suc i) e h b.0) ∙ g) in
-    let has = of_its_kind (event_of events) e k parts.1 old.0 same in
-    effect-rises e.op (plain (event_of events) e.base) (plain (event_of events) e.other) e.arg (ordered-among k (kinds_with e.op) o has) (lower e.base b.0 k same o))
+    (λ (u : uses_base e.op ≡ true).
+    let same : kind_of (event_of events) (event_name e.base) ≡ Some k = sym (kind-if_base e.op (kind_of (event_of events) (event_name e.base)) u) ∙ (sym (kind_is (event_of events) i e h at.smaller) ∙ g) in
+    let ordered = ordered-among k (kinds_with e.op) o (kind-has_op (event_of events) e k at.kinds u same) in
+    let below : event_name e.base < i = smaller-lt i e.base (base_passes (is_smaller i) e at.smaller u) in
+    let base = version-rises events e.base (lower (event_name e.base) below k same o) in
+    (effect-rises e.op (plain (event_of events) e.base) (plain (event_of events) e.other) e.arg ordered base, second-rises e.op (plain (event_of events) e.base) e.arg ordered))
     (new_or_not e.op))
 
-rises-name : (events : List Event) → IsScript events → (i : ℕ) (o : Option Event) → event_of events (suc i) ≡ o → ((m : ℕ) → m < suc i → Rises events m) → Rises events (suc i)
-rises-name events s i None h lower = λ k g o. subst IsNonDecreasing (sym (plain-none (event_of events) (suc i) h)) nothing-rises
+rises-name : (events : List Event) → IsScript events → (i : ℕ) (o : Option Event) → event_of events i ≡ o → ((m : ℕ) → m < i → Rises events m) → Rises events i
+rises-name events s i None h lower = λ k g o. subst BothRise (sym (lists_none (event_of events) i h)) (nothing-rises, nothing-rises)
 rises-name events s i (Some e) h lower = rises-event events s i e h lower
 
-rises-below : (events : List Event) → IsScript events → (n m : ℕ) → m < n → Rises events m
-rises-below events s zero m h = λ k g o. absurd (omega arith)
-rises-below events s (suc n) zero h = λ k g o. subst IsNonDecreasing (sym (plain-none (event_of events) 0 refl)) nothing-rises
-rises-below events s (suc n) (suc i) h = rises-name events s i (event_of events (suc i)) refl (λ m l. rises-below events s n m (omega arith))
-
-pub rises : (events : List Event) → IsScript events → (n : ℕ) → Rises events n
-rises events s n = rises-below events s (suc n) n (omega arith)
+pub rises : (events : List Event) → IsScript events → (v : ℕ) (k : Kind) → kind_of (event_of events) (event_name v) ≡ Some k → keeps_order k ≡ true → IsNonDecreasing (plain (event_of events) v)
+rises events s v k g o =
+    version-rises events v (from_lower (Rises events) (λ i lower. rises-name events s i (event_of events i) refl lower) (event_name v) k g o)

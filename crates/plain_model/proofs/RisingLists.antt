@@ -121,11 +121,3 @@ is_rising-IsNonDecreasing (x ∷ xs) h =
     and_from (list_all (leb x) xs) (is_rising xs)
     (all-from_places x xs (λ k l. h 0 (suc k) 0 (omega arith) (omega arith)))
     (is_rising-IsNonDecreasing xs (λ i j d l m. h (suc i) (suc j) d (omega arith) (omega arith)))
-
-pub length-insert_rising : (x : ℕ) (v : List ℕ) → length (insert_rising x v) ≡ suc (length v)
-length-insert_rising x [] = refl
-length-insert_rising x (y ∷ ys) = ⊎_elim (λ t. rw t (ap suc (length-insert_rising x ys))) (λ t. rw t) (cases_Bool (leb y x))
-
-pub length-rising : (v : List ℕ) → length (rising v) ≡ length v
-length-rising [] = refl
-length-rising (x ∷ xs) = length-insert_rising x (rising xs) ∙ ap suc (length-rising xs)

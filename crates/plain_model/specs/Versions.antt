@@ -1,7 +1,12 @@
 -- The lists of the versions so far.
-use Rattle.std.specs.Prelude.{ℕ, List, [], map, Vec, slice_index_or}
-use Rattle.std.specs.declared.alloc.Global.{Global}
+use Rattle.std.specs.Prelude.{ℕ, List, [], map, slice_index_or}
+use Rattle.lazy_rec.specs.History.{picked}
+use Rattle.plain_model.specs.declared.runs.ListPair.{ListPair}
 
--- the list of a name, and the empty list where no version has the name
-abbrev pub list_at : List (Vec ℕ Global) → ℕ → List ℕ
-list_at versions name = slice_index_or (map (λ v. v.items) versions) name []
+-- the two lists of a name, and empty lists where no event has the name
+abbrev pub lists_at : List ListPair → ℕ → List ℕ × List ℕ
+lists_at versions name = slice_index_or (map (λ v. (v.first.items, v.second.items)) versions) name ([], [])
+
+-- the list of a version
+abbrev pub list_at : List ListPair → ℕ → List ℕ
+list_at versions = picked (lists_at versions)

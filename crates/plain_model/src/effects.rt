@@ -1,22 +1,25 @@
 //! The effect of one operation on plain lists, a small function for each group of operations.
 
-ghost use Rattle.std.specs.Prelude.{◌≡◌, ◌≤◌, ◌++◌, ◌∷◌, [], take, drop, reverse, filter, length, leb, IfOk};
-ghost use Rattle.lazy_rec.specs.Plain.{most_items, has_item, contains, grown, effect, insert_rising, rising, without_first_equal, without_item, without_last};
+ghost use Rattle.std.specs.Prelude.{◌≡◌, ◌++◌, ◌∷◌, [], take, drop, reverse, filter, leb, IfOk};
+ghost use Rattle.lazy_rec.specs.Plain.{second_list, has_item, contains, grown, effect, insert_rising, rising, without_first_equal, without_item, without_last};
 ghost use Rattle.plain_model.specs.Outcome.{Gives};
 
-use crate::lists::{first_above, first_equal, has, is_allowed, item_at, last_item, reply_of};
+use crate::lists::{
+    first_above, first_equal, first_items, has, is_allowed, item_at, items_behind, last_item,
+    reply_of,
+};
 use lazy_rec::{Op, Reply};
 use std::alloc::{AllocError, Global};
 
-/// What an operation answers: the list of the new version, and the reply.
+/// What an operation answers: the list of the new version, of a split the first one, and the reply.
 #[derive(Drop)]
 pub(crate) struct Outcome {
-    pub(crate) list: Vec<u32>,
+    pub(crate) list: Vec<u64>,
     pub(crate) reply: Reply,
 }
 
 /// A copy of a list as the new version, with a reply.
-fn copied(alloc: Global, list: &[u32], reply: Reply) -> Result<Outcome, AllocError>
+fn copied(alloc: Global, list: &[u64], reply: Reply) -> Result<Outcome, AllocError>
     ensures { IfOk result (Gives (list.now, reply)) }
 {
     Ok(Outcome {
@@ -26,7 +29,7 @@ fn copied(alloc: Global, list: &[u32], reply: Reply) -> Result<Outcome, AllocErr
 }
 
 /// The second list after the first one.
-fn chained(alloc: Global, first: &[u32], second: &[u32]) -> Result<Vec<u32>, AllocError>
+fn chained(alloc: Global, first: &[u64], second: &[u64]) -> Result<Vec<u64>, AllocError>
     ensures { IfOk result (λ list. list.items ≡ first.now ++ second.now) }
 {
     let mut list = Vec::with_capacity(alloc, first.len() + second.len())?;
@@ -37,7 +40,7 @@ fn chained(alloc: Global, first: &[u32], second: &[u32]) -> Result<Vec<u32>, All
 
 /// `cons`, `snoc`, `append`, `pushl`, `pushr` and `concat`: one list after the other, or the base where that would
 /// be too long, which is tested before anything is built.
-fn joined(alloc: Global, base: &[u32], first: &[u32], second: &[u32]) -> Result<Outcome, AllocError>
+fn joined(alloc: Global, base: &[u64], first: &[u64], second: &[u64]) -> Result<Outcome, AllocError>
     ensures { IfOk result (Gives (grown base.now (first.now ++ second.now))) }
 {
     if !is_allowed(first.len() + second.len()) {
@@ -50,7 +53,7 @@ fn joined(alloc: Global, base: &[u32], first: &[u32], second: &[u32]) -> Result<
 }
 
 /// `meld`: the items of both lists in rising order.
-fn melded(alloc: Global, base: &[u32], other: &[u32]) -> Result<Outcome, AllocError>
+fn melded(alloc: Global, base: &[u64], other: &[u64]) -> Result<Outcome, AllocError>
     ensures { IfOk result (Gives (grown base.now (rising (base.now ++ other.now)))) }
 {
     if !is_allowed(base.len() + other.len()) {
@@ -65,7 +68,7 @@ fn melded(alloc: Global, base: &[u32], other: &[u32]) -> Result<Outcome, AllocEr
 }
 
 /// `insert`: the item after all that are not above it.
-fn inserted(alloc: Global, base: &[u32], item: u32) -> Result<Outcome, AllocError>
+fn inserted(alloc: Global, base: &[u64], item: u64) -> Result<Outcome, AllocError>
     ensures { IfOk result (Gives (grown base.now (insert_rising item base.now))) }
 {
     if !is_allowed(base.len() + 1) {
@@ -80,7 +83,7 @@ fn inserted(alloc: Global, base: &[u32], item: u32) -> Result<Outcome, AllocErro
 }
 
 /// `tail`, `delmin` and `popl`: the list without its first item.
-fn without_first(alloc: Global, base: &[u32]) -> Result<Outcome, AllocError>
+fn without_first(alloc: Global, base: &[u64]) -> Result<Outcome, AllocError>
     ensures { IfOk result (Gives (without_item (has_item base.now) base.now (drop 1 base.now))) }
 {
     if base.is_empty() {
@@ -90,7 +93,7 @@ fn without_first(alloc: Global, base: &[u32]) -> Result<Outcome, AllocError>
 }
 
 /// `delmax` and `popr`: the list without its last item.
-fn without_last(alloc: Global, base: &[u32]) -> Result<Outcome, AllocError>
+fn without_last(alloc: Global, base: &[u64]) -> Result<Outcome, AllocError>
     ensures { IfOk result (Gives (without_item (has_item base.now) base.now (without_last base.now))) }
 {
     if base.is_empty() {
@@ -100,7 +103,7 @@ fn without_last(alloc: Global, base: &[u32]) -> Result<Outcome, AllocError>
 }
 
 /// `remove`: the list without the first item that equals the argument.
-fn removed(alloc: Global, base: &[u32], item: u32) -> Result<Outcome, AllocError>
+fn removed(alloc: Global, base: &[u64], item: u64) -> Result<Outcome, AllocError>
     ensures { IfOk result (Gives (without_item (contains item base.now) base.now (without_first_equal item base.now))) }
 {
     let Some(at) = first_equal(base, item) else {
@@ -115,7 +118,7 @@ fn removed(alloc: Global, base: &[u32], item: u32) -> Result<Outcome, AllocError
 }
 
 /// `reverse`: the items in the other order.
-fn reversed(alloc: Global, base: &[u32]) -> Result<Outcome, AllocError>
+fn reversed(alloc: Global, base: &[u64]) -> Result<Outcome, AllocError>
     ensures { IfOk result (Gives (reverse base.now, Reply.Ok)) }
 {
     Ok(Outcome {
@@ -125,7 +128,7 @@ fn reversed(alloc: Global, base: &[u32]) -> Result<Outcome, AllocError>
 }
 
 /// `upto`: the items that are not above the argument.
-fn up_to(alloc: Global, base: &[u32], bound: u32) -> Result<Outcome, AllocError>
+fn up_to(alloc: Global, base: &[u64], bound: u64) -> Result<Outcome, AllocError>
     ensures { IfOk result (Gives (filter (λ y. leb y bound) base.now, Reply.Ok)) }
 {
     let list = base
@@ -139,34 +142,33 @@ fn up_to(alloc: Global, base: &[u32], bound: u32) -> Result<Outcome, AllocError>
     })
 }
 
-/// `take`: the first items, as many as the argument says or there are.
-fn taken(alloc: Global, base: &[u32], count: u32) -> Result<Outcome, AllocError>
+/// `take`, and the first list of `split`: the first items, as many as the argument says or there are.
+fn taken(alloc: Global, base: &[u64], count: u64) -> Result<Outcome, AllocError>
     ensures { IfOk result (Gives (take count base.now, Reply.Ok)) }
 {
-    copied(alloc, &base[..base.len().min(count as usize)], Reply::Ok)
+    copied(alloc, first_items(base, count), Reply::Ok)
 }
 
 /// `drop`: the list without as many first items as the argument says.
-fn dropped(alloc: Global, base: &[u32], count: u32) -> Result<Outcome, AllocError>
+fn dropped(alloc: Global, base: &[u64], count: u64) -> Result<Outcome, AllocError>
     ensures { IfOk result (Gives (drop count base.now, Reply.Ok)) }
 {
-    copied(alloc, &base[base.len().min(count as usize)..], Reply::Ok)
+    copied(alloc, items_behind(base, count), Reply::Ok)
 }
 
 /// The new list and the reply of an operation, from the base's list, the other's list and the argument.
 pub(crate) fn outcome_of(
     alloc: Global,
     op: Op,
-    base: &[u32],
-    other: &[u32],
-    argument: u32,
+    base: &[u64],
+    other: &[u64],
+    argument: u64,
 ) -> Result<Outcome, AllocError>
-    requires { length base.now ≤ most_items }
     ensures { IfOk result (Gives (effect op base.now other.now argument)) }
 {
     match op {
         Op::New(_) => copied(alloc, &[], Reply::Ok),
-        Op::Size => copied(alloc, base, Reply::Number(base.len() as u32)),
+        Op::Size => copied(alloc, base, Reply::Number(base.len() as u64)),
         Op::Cons | Op::Pushl => joined(alloc, base, &[argument], base),
         Op::Snoc | Op::Pushr => joined(alloc, base, base, &[argument]),
         Op::Append | Op::Concat => joined(alloc, base, base, other),
@@ -184,8 +186,23 @@ pub(crate) fn outcome_of(
         Op::Delmax | Op::Popr => without_last(alloc, base),
         Op::Remove => removed(alloc, base, argument),
         Op::Reverse => reversed(alloc, base),
-        Op::Take => taken(alloc, base, argument),
+        Op::Take | Op::Split => taken(alloc, base, argument),
         Op::Drop => dropped(alloc, base, argument),
         Op::Upto => up_to(alloc, base, argument),
+    }
+}
+
+/// The list of the second version: what a split leaves behind its first list.
+pub(crate) fn second_of(
+    alloc: Global,
+    op: Op,
+    base: &[u64],
+    argument: u64,
+) -> Result<Vec<u64>, AllocError>
+    ensures { IfOk result (λ list. list.items ≡ second_list op base.now argument) }
+{
+    match op {
+        Op::Split => Vec::from_slice(alloc, items_behind(base, argument)),
+        _ => Ok(Vec::new(alloc)),
     }
 }

@@ -347,6 +347,56 @@ const ORDERED_SEQUENCE: &[(Event, Reply)] = &rows![
     Size 12 0 0 => Number(2),
 ];
 
+/// Two parts of a sequence. The number 2147483652 stands for the second version of the name 4.
+const SECOND_VERSIONS: &[(Event, Reply)] = &rows![
+    New(Seq) 0 0 0 => Ok,
+    Pushr 1 0 1 => Ok,
+    Pushr 2 0 2 => Ok,
+    Split 3 0 1 => Ok,
+    First 4 0 0 => Number(1),
+    First 2147483652 0 0 => Number(2),
+    Size 2147483652 0 0 => Number(1),
+    Split 2147483652 0 5 => Ok,
+    Size 2147483656 0 0 => Number(0),
+    First 2147483656 0 0 => Empty,
+];
+
+/// Cuts at both ends and within, and parts put together again.
+const CUTS: &[(Event, Reply)] = &rows![
+    New(Seq) 0 0 0 => Ok,
+    Split 1 0 0 => Ok,
+    Size 2 0 0 => Number(0),
+    Size 2147483650 0 0 => Number(0),
+    Pushr 2147483650 0 7 => Ok,
+    Pushr 5 0 8 => Ok,
+    Pushr 6 0 9 => Ok,
+    Split 7 0 0 => Ok,
+    Size 8 0 0 => Number(0),
+    Size 2147483656 0 0 => Number(3),
+    Split 2147483656 0 2 => Ok,
+    Last 11 0 0 => Number(8),
+    First 2147483659 0 0 => Number(9),
+    Concat 2147483659 11 0 => Ok,
+    First 14 0 0 => Number(9),
+    Last 14 0 0 => Number(8),
+    Concat 11 2147483659 0 => Ok,
+    Nth 17 0 2 => Number(9),
+    Size 17 0 0 => Number(3),
+    Split 17 0 18446744073709551615 => Ok,
+    Size 20 0 0 => Number(3),
+    Size 2147483668 0 0 => Number(0),
+];
+
+/// Items of more than 32 bits.
+const WIDE_ITEMS: &[(Event, Reply)] = &rows![
+    New(Prio) 0 0 0 => Ok,
+    Insert 1 0 18446744073709551615 => Ok,
+    Insert 2 0 4294967296 => Ok,
+    Max 3 0 0 => Number(18446744073709551615),
+    Delmax 3 0 0 => Ok,
+    Max 5 0 0 => Number(4294967296),
+];
+
 fn events_of(alloc: Global, table: &[(Event, Reply)]) -> Result<Vec<Event>, AllocError>
     ensures { IfOk result (λ events. events.items ≡ map (λ row. row.0) table.now) }
 {
@@ -383,5 +433,13 @@ fn small_scripts(rt: HostRuntime) -> Result<(), Fail> {
     compare(&rt, rt.alloc(), EQUAL_GREATEST)?;
     compare(&rt, rt.alloc(), LEFT_NESTING)?;
     compare(&rt, rt.alloc(), ORDERED_SEQUENCE)?;
+    Ok(())
+}
+
+#[test]
+fn splits_and_wide_items(rt: HostRuntime) -> Result<(), Fail> {
+    compare(&rt, rt.alloc(), SECOND_VERSIONS)?;
+    compare(&rt, rt.alloc(), CUTS)?;
+    compare(&rt, rt.alloc(), WIDE_ITEMS)?;
     Ok(())
 }

@@ -1,7 +1,7 @@
 use Rattle.std.proofs.Common.{◌≡◌, ◌+◌, length, arith}
 use Rattle.plain_model.proofs.ByPlaces.{inserted-at}
 use Rattle.plain_model.proofs.Growth.{grown-allowed, grown-too_long, by_parts}
-use Rattle.plain_model.proofs.RisingLists.{length-insert_rising}
+use Rattle.lazy_rec.proofs.PlainLaws.{length-insert_rising}
 use Rattle.lazy_rec.specs.Plain.{insert_rising}
 use Rattle.plain_model.proofs.effects.inserted.Goals as goal
 

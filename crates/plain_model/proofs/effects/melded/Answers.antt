@@ -1,7 +1,8 @@
 use Rattle.std.proofs.Common.{ℕ, ap, ◌≡◌, ◌+◌, ◌++◌, length, ◌∙◌, length-append}
 use Rattle.lazy_rec.specs.Plain.{rising}
 use Rattle.plain_model.proofs.Growth.{grown-allowed, grown-too_long, by_parts}
-use Rattle.plain_model.proofs.RisingLists.{rising-unique, is_rising-IsNonDecreasing, length-rising}
+use Rattle.plain_model.proofs.RisingLists.{rising-unique, is_rising-IsNonDecreasing}
+use Rattle.lazy_rec.proofs.PlainLaws.{length-rising}
 use Rattle.std.proofs.lemmas.List.Sorted.{IsNonDecreasingBy-from_sort}
 use Rattle.plain_model.proofs.effects.melded.Goals as goal
 

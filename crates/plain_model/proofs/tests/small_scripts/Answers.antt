@@ -1,7 +1,7 @@
 use Rattle.std.proofs.Common.{refl}
 use Rattle.lazy_rec.specs.ByPlace.{by_place}
 use Rattle.lazy_rec.specs.History.{kind_of}
-use Rattle.plain_model.proofs.Scripts.{IsScript-from_test}
+use Rattle.lazy_rec.proofs.ScriptTests.{IsScript-from_test}
 use Rattle.plain_model.proofs.tests.small_scripts.Goals as goal
 
 pub compare-requires : goal.compare-requires
