@@ -10,7 +10,7 @@ use Rattle.lazy_rec.specs.Numbers.{digits, binary, bits}
 use Rattle.lazy_rec.specs.Due.{due, direct}
 use Rattle.lazy_rec.specs.History.{Events, plain}
 use Rattle.dues.specs.Sizes.{bound_of}
-use Rattle.dues.specs.Rooms.{places_of, places_at_size, sum_to}
+use Rattle.dues.specs.Rooms.{places, places_of, places_at_size, sum_to}
 use Rattle.dues.proofs.SizeLaws.{bounds_fit}
 
 digits_grow : (most n n' : ℕ) → n ≤ n' → length (digits most n) ≤ length (digits most n')
@@ -44,6 +44,7 @@ due_grows kinds.Seq ops.Popr n m n' m' h k = omega (arith, bits_grow n n' h)
 due_grows kinds.Seq ops.Take n m n' m' h k = omega (arith, squares_grow n n' h)
 due_grows kinds.Seq ops.Drop n m n' m' h k = omega (arith, squares_grow n n' h)
 due_grows kinds.Seq ops.Concat n m n' m' h k = omega (arith, bits_grow (n + m) (n' + m') (omega arith))
+due_grows kinds.Seq ops.Split n m n' m' h k = omega (arith, squares_grow n n' h)
 due_grows kinds.Prio ops.Insert n m n' m' h k = omega (arith, bits_grow (n + 1) (n' + 1) (omega arith))
 due_grows kinds.Prio ops.Delmax n m n' m' h k = omega (arith, squares_grow n n' h, bits_grow n n' h)
 due_grows kinds.Prio ops.Meld n m n' m' h k = omega (arith, bits_grow (n + m) (n' + m') (omega arith))
@@ -77,6 +78,7 @@ direct_grows kinds.Seq ops.Popr n m n' m' h k = omega arith
 direct_grows kinds.Seq ops.Take n m n' m' h k = omega (arith, bits_grow n n' h)
 direct_grows kinds.Seq ops.Drop n m n' m' h k = omega (arith, bits_grow n n' h)
 direct_grows kinds.Seq ops.Concat n m n' m' h k = omega arith
+direct_grows kinds.Seq ops.Split n m n' m' h k = omega (arith, bits_grow n n' h)
 direct_grows kinds.Prio ops.Insert n m n' m' h k = omega arith
 direct_grows kinds.Prio ops.Delmax n m n' m' h k = omega (arith, bits_grow n n' h)
 direct_grows kinds.Prio ops.Meld n m n' m' h k = omega arith
@@ -89,15 +91,13 @@ direct_grows kinds.Cat ops.Append n m n' m' h k = omega arith
 direct_grows kinds.Cat ops.Tail n m n' m' h k = omega arith
 direct_grows _ _ n m n' m' h k = omega arith
 
+-- an event takes no less at greater sizes
+pub places_grow : (k : Kind) (op : Op) (n m n' m' : ℕ) → n ≤ n' → m ≤ m' → places k op n m ≤ places k op n' m'
+places_grow k op n m n' m' h l = omega (arith, due_grows k op n m n' m' h l, direct_grows k op n m n' m' h l)
+
 pub covered : (events : Events) (k : Option Kind) (o : Option Event) → places_at_size events k o ≤ places_of events k o
 covered events (Some k) (Some e) =
-    let base = (bounds_fit events e.base).0 in
-    let other = (bounds_fit events e.other).0 in
-    omega (
-      arith,
-      due_grows k e.op (length (plain events e.base)) (length (plain events e.other)) (bound_of events e.base) (bound_of events e.other) base other,
-      direct_grows k e.op (length (plain events e.base)) (length (plain events e.other)) (bound_of events e.base) (bound_of events e.other) base other,
-    )
+    places_grow k e.op (length (plain events e.base)) (length (plain events e.other)) (bound_of events e.base) (bound_of events e.other) (bounds_fit events e.base).0 (bounds_fit events e.other).0
 covered events (Some k) None = omega arith
 covered events None o = omega arith
 

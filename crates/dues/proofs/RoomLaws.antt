@@ -5,14 +5,15 @@ use Rattle.lazy_rec.specs.declared.events.Kind.TheVariants as kinds
 use Rattle.lazy_rec.specs.declared.events.Op.{Op}
 use Rattle.lazy_rec.specs.declared.events.Op.TheVariants as ops
 use Rattle.lazy_rec.specs.declared.events.Event.{Event}
+use Rattle.lazy_rec.specs.declared.limits.TheConstants.{MOST_EVENTS}
 use Rattle.lazy_rec.specs.Numbers.{bits}
 use Rattle.lazy_rec.specs.Due.{due, direct, new_places}
 use Rattle.lazy_rec.specs.Plain.{most_items}
 use Rattle.lazy_rec.specs.History.{Events, event_of, kind_of}
 use Rattle.dues.specs.Sizes.{bound_of}
-use Rattle.dues.specs.Rooms.{places, places_of, sum_to}
+use Rattle.dues.specs.Rooms.{places, places_of, sum_to, both_bounds}
 use Rattle.dues.proofs.BitsFit.{bits_fit, square_fits}
-use Rattle.dues.proofs.SizeLaws.{bounds_fit}
+use Rattle.dues.proofs.SizeLaws.{bounds_fit, both_fit}
 
 pub due_fits : (k : Kind) (op : Op) (n m : ℕ) → due k op n m ≤ 3 * n + 8300
 due_fits kinds.Stream ops.Append n m = omega arith
@@ -32,6 +33,7 @@ due_fits kinds.Seq ops.Popr n m = omega (arith, bits_fit n)
 due_fits kinds.Seq ops.Take n m = omega (arith, square_fits (bits n) (bits_fit n))
 due_fits kinds.Seq ops.Drop n m = omega (arith, square_fits (bits n) (bits_fit n))
 due_fits kinds.Seq ops.Concat n m = omega (arith, bits_fit (n + m))
+due_fits kinds.Seq ops.Split n m = omega (arith, square_fits (bits n) (bits_fit n))
 due_fits kinds.Prio ops.Insert n m = omega (arith, bits_fit (n + 1))
 due_fits kinds.Prio ops.Delmax n m = omega (arith, square_fits (bits n) (bits_fit n), bits_fit n)
 due_fits kinds.Prio ops.Meld n m = omega (arith, bits_fit (n + m))
@@ -72,6 +74,7 @@ direct_fits kinds.Seq ops.Popr n m = omega arith
 direct_fits kinds.Seq ops.Take n m = omega (arith, bits_fit n)
 direct_fits kinds.Seq ops.Drop n m = omega (arith, bits_fit n)
 direct_fits kinds.Seq ops.Concat n m = omega arith
+direct_fits kinds.Seq ops.Split n m = omega (arith, bits_fit n)
 direct_fits kinds.Prio ops.Insert n m = omega arith
 direct_fits kinds.Prio ops.Delmax n m = omega (arith, bits_fit n)
 direct_fits kinds.Prio ops.Meld n m = omega arith
@@ -106,7 +109,7 @@ sum_fits f most each (suc last) = omega (arith, sum_fits f most each last, each 
 abbrev pub places_to : List Event → ℕ → ℕ
 places_to events last = sum_to (λ i. places_of (event_of events) (kind_of (event_of events) i) (event_of events i)) last
 
-pub places_to_fit : (events : List Event) (last : ℕ) → last ≤ 200000 → places_to events last < 2 ^ 54
+pub places_to_fit : (events : List Event) (last : ℕ) → last ≤ MOST_EVENTS → places_to events last < 2 ^ 54
 places_to_fit events last few =
     omega (
       arith,
@@ -114,5 +117,5 @@ places_to_fit events last few =
           (λ i. places_of_fit (event_of events) (kind_of (event_of events) i) (event_of events i)) last,
     )
 
-pub bounds_to_fit : (events : List Event) (last : ℕ) → last ≤ 200000 → sum_to (bound_of (event_of events)) last < 2 ^ 49
-bounds_to_fit events last few = omega (arith, sum_fits (bound_of (event_of events)) most_items (λ i. (bounds_fit (event_of events) i).1) last)
+pub bounds_to_fit : (events : List Event) (last : ℕ) → last ≤ MOST_EVENTS → sum_to (both_bounds (event_of events)) last < 2 ^ 49
+bounds_to_fit events last few = omega (arith, sum_fits (both_bounds (event_of events)) most_items (both_fit (event_of events)) last)

@@ -1,5 +1,5 @@
 -- No version has more items than its size bound.
-use Rattle.std.proofs.Common.{◌≡◌, ℕ, zero, suc, ◌+◌, ◌-◌, ◌≤◌, eqb, leb, Bool, true, false, cond, refl, ap, ◌∙◌, arith, Option, Some, None, List, [], ◌∷◌, ◌++◌, drop, length, length-append, length-drop, length-take}
+use Rattle.std.proofs.Common.{◌≡◌, ℕ, suc, ◌+◌, ◌-◌, ◌≤◌, eqb, leb, Bool, true, false, cond, refl, ap, ◌∙◌, arith, Option, Some, None, List, [], ◌∷◌, ◌++◌, drop, length, length-append, length-drop, length-take}
 use Rattle.std.specs.Prelude.{filter}
 use Rattle.std.proofs.lemmas.Bool.{leb-true}
 use Rattle.std.proofs.lemmas.List.{length-reverse}
@@ -9,35 +9,13 @@ use Rattle.lazy_rec.specs.declared.events.Op.TheVariants as ops
 use Rattle.lazy_rec.specs.declared.events.Event.{Event}
 use Rattle.lazy_rec.specs.declared.events.Reply.{Reply}
 use Rattle.lazy_rec.specs.declared.events.Reply.TheVariants as replies
-use Rattle.lazy_rec.specs.ByPlace.{below, by_place}
-use Rattle.lazy_rec.specs.Plain.{insert_rising, rising, without_last, without_first_equal, has_item, contains, most_items, grown, without_item, effect}
-use Rattle.lazy_rec.specs.History.{Events, list_made, plain}
-use Rattle.dues.specs.Sizes.{at_most_all, size_bound, bound_made, bound_of}
-
-length-insert_rising : (x : ℕ) (v : List ℕ) → length (insert_rising x v) ≡ suc (length v)
-length-insert_rising x [] = refl
-length-insert_rising x (y ∷ ys) = by (leb y x) (length-insert_rising x ys)
-  where
-    by : (b : Bool) → length (insert_rising x ys) ≡ suc (length ys) → length (cond b (y ∷ insert_rising x ys) (x ∷ y ∷ ys)) ≡ suc (suc (length ys))
-    by true e = ap suc e
-    by false e = refl
-
-length-rising : (v : List ℕ) → length (rising v) ≡ length v
-length-rising [] = refl
-length-rising (x ∷ xs) = length-insert_rising x (rising xs) ∙ ap suc (length-rising xs)
-
-length-without_last : (v : List ℕ) → length (without_last v) ≡ length v - 1
-length-without_last [] = refl
-length-without_last (x ∷ []) = refl
-length-without_last (x ∷ y ∷ ys) = omega (arith, length-without_last (y ∷ ys))
-
-without_first_equal-fits : (x : ℕ) (v : List ℕ) → length (without_first_equal x v) ≤ length v
-without_first_equal-fits x [] = omega arith
-without_first_equal-fits x (y ∷ ys) = by (eqb x y) (without_first_equal-fits x ys)
-  where
-    by : (b : Bool) → length (without_first_equal x ys) ≤ length ys → length (cond b ys (y ∷ without_first_equal x ys)) ≤ suc (length ys)
-    by true h = omega arith
-    by false h = omega arith
+use Rattle.lazy_rec.specs.Kinds.{is_split}
+use Rattle.lazy_rec.specs.Plain.{insert_rising, rising, without_last, without_first_equal, has_item, contains, most_items, grown, without_item, effect, second_list}
+use Rattle.lazy_rec.specs.History.{Events, is_second, event_name, picked, lists_made, lists, plain}
+use Rattle.lazy_rec.proofs.ByPlaceLaws.{by_place_related}
+use Rattle.lazy_rec.proofs.PlainLaws.{length-insert_rising, length-rising, length-without_last, length-without_first_equal}
+use Rattle.dues.specs.Sizes.{at_most_all, size_bound, second_bound, picked_bound, bounds_made, bounds, bound_of}
+use Rattle.dues.specs.Rooms.{both_bounds}
 
 filter-fits : (p : ℕ → Bool) (v : List ℕ) → length (filter p v) ≤ length v
 filter-fits p v = omega (arith, length-filter p v, count_by-le-length p v)
@@ -81,35 +59,52 @@ effect_fits ops.Popr v w n m x h k = one_fewer v (without_last v) n h (length-wi
 effect_fits ops.Take v w n m x h k = (omega (arith, length-take x v), omega arith)
 effect_fits ops.Drop v w n m x h k = (omega (arith, length-drop x v), omega arith)
 effect_fits ops.Concat v w n m x h k = grown_fits v (v ++ w) n (n + m) h (omega (arith, length-append v w)) (omega arith)
-effect_fits ops.Remove v w n m x h k = at_most_as_many (contains x v) v (without_first_equal x v) n h (without_first_equal-fits x v)
+effect_fits ops.Remove v w n m x h k = at_most_as_many (contains x v) v (without_first_equal x v) n h (length-without_first_equal x v)
+effect_fits ops.Split v w n m x h k = (omega (arith, length-take x v), omega arith)
 effect_fits ops.Upto v w n m x h k = (omega (arith, filter-fits (λ y. leb y x) v), omega arith)
 effect_fits _ v w n m x h k = h
 
-made_fits : (lists : ℕ → List ℕ) (bounds : ℕ → ℕ) → ((i : ℕ) → Fits (length (lists i)) (bounds i)) → (o : Option Event) → Fits (length (list_made lists o)) (bound_made bounds o)
-made_fits lists bounds fits None = (omega arith, omega arith)
-made_fits lists bounds fits (Some e) = effect_fits e.op (lists e.base) (lists e.other) (bounds e.base) (bounds e.other) e.arg (fits e.base) (fits e.other)
+second_fits : (op : Op) (v : List ℕ) (n x : ℕ) → Fits (length v) n → Fits (length (second_list op v x)) (cond (is_split op) (second_bound n x) 0)
+second_fits ops.Split v n x h = (omega (arith, length-drop x v), omega arith)
+second_fits _ v n x h = (omega arith, omega arith)
 
--- the first where the test passes, else the second
-abbrev if_same : {X : Type 0} → Bool → X → X → X
-if_same b x y = elim b [ true ↦ x | false ↦ y ]
+-- what a split cuts in two is within one bound, and other operations make one version
+both_made_fit : (op : Op) (n m x : ℕ) → n ≤ most_items → size_bound op n m x ≤ most_items → size_bound op n m x + cond (is_split op) (second_bound n x) 0 ≤ most_items
+both_made_fit ops.Split n m x h k = omega arith
+both_made_fit _ n m x h k = omega arith
 
-module _ (events : Events) where
-  lists : (ℕ → List ℕ) → ℕ → List ℕ
-  lists lower i = list_made lower (events i)
+-- the lists of a name within its bounds, and both bounds together such as one version may have
+record PairFits (pair : List ℕ × List ℕ) (limits : ℕ × ℕ) : Type 0 where
+  first : Fits (length pair.0) limits.0
+  second : Fits (length pair.1) limits.1
+  both : limits.0 + limits.1 ≤ most_items
 
-  bounds : (ℕ → ℕ) → ℕ → ℕ
-  bounds lower i = bound_made lower (events i)
+picked_fits : (f : ℕ → List ℕ × List ℕ) (g : ℕ → ℕ × ℕ) → ((i : ℕ) → PairFits (f i) (g i)) → (v : ℕ) → Fits (length (picked f v)) (picked_bound g v)
+picked_fits f g fits v = by (is_second v) (f (event_name v)) (g (event_name v)) (fits (event_name v))
+  where
+    by : (b : Bool) (pair : List ℕ × List ℕ) (limits : ℕ × ℕ) → PairFits pair limits → Fits (length (cond b pair.1 pair.0)) (cond b limits.1 limits.0)
+    by true pair limits fit = fit.second
+    by false pair limits fit = fit.first
 
-  below_fits : (n i : ℕ) → Fits (length (below [] lists n i)) (below 0 bounds n i)
-  unfolding lists bounds
-  below_fits zero i = (omega arith, omega arith)
-  below_fits (suc n) i = by (eqb i n) (below_fits n)
-    where
-      by : (b : Bool) → ((j : ℕ) → Fits (length (below [] lists n j)) (below 0 bounds n j))
-          → Fits (length (if_same b (lists (below [] lists n) n) (below [] lists n i))) (if_same b (bounds (below 0 bounds n) n) (below 0 bounds n i))
-      by true fits = made_fits (below [] lists n) (below 0 bounds n) fits (events n)
-      by false fits = fits i
+made_fits : (f : ℕ → List ℕ) (g : ℕ → ℕ) → ((v : ℕ) → Fits (length (f v)) (g v)) → (o : Option Event) → PairFits (lists_made f o) (bounds_made g o)
+made_fits f g fits None = record { first = (omega arith, omega arith); second = (omega arith, omega arith); both = omega arith }
+made_fits f g fits (Some e) =
+    let first = effect_fits e.op (f e.base) (f e.other) (g e.base) (g e.other) e.arg (fits e.base) (fits e.other) in
+    record {
+      first = first;
+      second = second_fits e.op (f e.base) (g e.base) e.arg (fits e.base);
+      both = both_made_fit e.op (g e.base) (g e.other) e.arg (fits e.base).1 first.1;
+    }
 
-  pub bounds_fit : (i : ℕ) → Fits (length (plain events i)) (bound_of events i)
-  unfolding plain bound_of lists bounds by_place
-  bounds_fit i = made_fits (below [] lists i) (below 0 bounds i) (below_fits i) (events i)
+pair_fits : (events : Events) (i : ℕ) → PairFits (lists events i) (bounds events i)
+unfolding lists bounds
+pair_fits events i = by_place_related PairFits ([], []) (λ lower j. lists_made (picked lower) (events j)) (0, 0) (λ lower j. bounds_made (picked_bound lower) (events j))
+    (made_fits (λ _. []) (λ _. 0) (λ _. (omega arith, omega arith)) None) i
+    (λ p f g l fits. made_fits (picked f) (picked_bound g) (picked_fits f g fits) (events p))
+
+pub bounds_fit : (events : Events) (v : ℕ) → Fits (length (plain events v)) (bound_of events v)
+unfolding plain bound_of
+bounds_fit events v = picked_fits (lists events) (bounds events) (pair_fits events) v
+
+pub both_fit : (events : Events) (i : ℕ) → both_bounds events i ≤ most_items
+both_fit events i = (pair_fits events i).both

@@ -5,7 +5,7 @@ use Rattle.lazy_rec.specs.declared.events.Op.{Op}
 use Rattle.lazy_rec.specs.declared.events.Event.{Event}
 use Rattle.lazy_rec.specs.Due.{due, direct}
 use Rattle.lazy_rec.specs.History.{Events, event_of, kind_of, plain}
-use Rattle.dues.specs.Sizes.{bound_of}
+use Rattle.dues.specs.Sizes.{bounds, bound_of}
 
 -- the places of an event: those that it may reserve itself, and eight for each step that its due pays
 abbrev pub places : Kind → Op → ℕ → ℕ → ℕ
@@ -34,6 +34,10 @@ room events = sum_to (λ i. places_of (event_of events) (kind_of (event_of event
 abbrev pub room_at_sizes : List Event → ℕ
 room_at_sizes events = sum_to (λ i. places_at_size (event_of events) (kind_of (event_of events) i) (event_of events i)) (length events)
 
+-- the size bounds of both versions of a name
+abbrev pub both_bounds : Events → ℕ → ℕ
+both_bounds events i = (bounds events i).0 + (bounds events i).1
+
 -- the sum of the size bounds of all versions
 abbrev pub model_size : List Event → ℕ
-model_size events = sum_to (bound_of (event_of events)) (length events)
+model_size events = sum_to (both_bounds (event_of events)) (length events)

@@ -7,5 +7,5 @@ pub mod sizes;
 pub mod tables;
 
 pub use rooms::{model_size, room, room_covers, room_fits};
-pub use sizes::{size_bound, size_bounds_hold};
+pub use sizes::{second_bound, size_bound, size_bounds_hold};
 pub use tables::{direct, due, never_forces};

@@ -1,73 +1,89 @@
 //! The room of a script and the sum of its size bounds, in one pass over its events.
 
-ghost use Rattle.std.specs.Prelude.{◌≡◌, ℕ, ◌+◌, ◌*◌, ◌≤◌, ◌<◌, ◌^◌, List, Some, IfOk, IsSome, length};
+ghost use Rattle.std.specs.Prelude.{◌≡◌, ℕ, ◌+◌, ◌*◌, ◌≤◌, ◌<◌, ◌^◌, cond, List, Some, IfOk, IsSome, length};
 ghost use Rattle.lazy_rec.specs.declared.events.Event.{Event};
+ghost use Rattle.lazy_rec.specs.Kinds.{is_split};
 ghost use Rattle.lazy_rec.specs.History.{event_of, kind_of, IsScript};
+ghost use Rattle.dues.specs.Sizes.{second_bound};
 ghost use Rattle.dues.specs.Rooms.{room, room_at_sizes, places_of, places_at_size, model_size};
-ghost use Rattle.dues.specs.Versions.{version_at, bound_at, next_kind, next_bound, next_places};
+ghost use Rattle.dues.specs.Versions.{versions_at, bound_at, next_kind, next_bounds, next_places};
 
-use crate::sizes::size_bound;
+use crate::sizes::{second_bound, size_bound};
 use crate::tables::{direct, due};
-use lazy_rec::{Event, Kind, NoMemory, Op};
+use lazy_rec::{Event, Kind, NoMemory, Op, event_name, is_second};
 use std::alloc::Global;
 
-/// What is kept of a version: its kind and its size bound.
+/// What is kept of the versions of a name: their kind and their size bounds, the second one 0 where there is one version.
 #[derive(Clone, Copy)]
-struct VersionBound {
+struct VersionBounds {
     kind: Kind,
-    bound: u32,
+    first: u32,
+    second: u32,
 }
 
-/// What is kept of the version of a name. Names count from 1.
-fn version_at(versions: &[VersionBound], name: u32) -> Option<VersionBound>
-    ensures { result ≡ version_at versions.now name }
+/// What is kept of the versions of a name. Names count from 1.
+fn versions_at(kept: &[VersionBounds], name: u32) -> Option<VersionBounds>
+    ensures { result ≡ versions_at kept.now name }
 {
     let index = name.checked_sub(1)?;
-    versions.get(index as usize).copied()
+    kept.get(index as usize).copied()
 }
 
-fn bound_at(versions: &[VersionBound], name: u32) -> u32
-    ensures { result ≡ bound_at versions.now name }
+/// The size bound of a version, 0 where there is none.
+fn bound_at(kept: &[VersionBounds], version: u32) -> u32
+    ensures { result ≡ bound_at kept.now version }
 {
-    match version_at(versions, name) {
-        Some(version) => version.bound,
+    match versions_at(kept, event_name(version)) {
+        Some(bounds) if is_second(version) => bounds.second,
+        Some(bounds) => bounds.first,
         None => 0,
     }
 }
 
-/// The kind of the version that an event makes: that of `new`, else that of its base.
-fn next_kind(versions: &[VersionBound], event: &Event) -> Kind
-    requires { IsSome (next_kind versions.now event.now) }
-    ensures { next_kind versions.now event.now ≡ Some result }
+/// The kind of the versions that an event makes: that of `new`, else that of its base.
+fn next_kind(kept: &[VersionBounds], event: &Event) -> Kind
+    requires { IsSome (next_kind kept.now event.now) }
+    ensures { next_kind kept.now event.now ≡ Some result }
 {
-    match (event.op, version_at(versions, event.base)) {
+    match (event.op, versions_at(kept, event_name(event.base))) {
         (Op::New(kind), _) => kind,
-        (_, Some(version)) => version.kind,
+        (_, Some(versions)) => versions.kind,
         (_, None) => unreachable!(),
     }
 }
 
-/// What is kept of the version that an event makes.
-fn next_version(versions: &[VersionBound], event: &Event) -> VersionBound
-    requires { IsSome (next_kind versions.now event.now) }
-    ensures kind { next_kind versions.now event.now ≡ Some result.kind }
-    ensures bound { result.bound ≡ next_bound versions.now event.now }
+/// The size bound of the second version that an event makes, 0 where it makes none.
+fn bound_of_second(event: &Event, b1: u32) -> u32
+    ensures { result ≡ cond (is_split event.now.op) (second_bound b1 event.now.arg) 0 }
 {
-    let kind = next_kind(versions, event);
-    let b1 = bound_at(versions, event.base);
-    let b2 = bound_at(versions, event.other);
-    VersionBound {
+    match event.op {
+        Op::Split => second_bound(event, b1),
+        _ => 0,
+    }
+}
+
+/// What is kept of the versions that an event makes.
+fn next_versions(kept: &[VersionBounds], event: &Event) -> VersionBounds
+    requires { IsSome (next_kind kept.now event.now) }
+    ensures kind { next_kind kept.now event.now ≡ Some result.kind }
+    ensures bounds { (result.first, result.second) ≡ next_bounds kept.now event.now }
+{
+    let kind = next_kind(kept, event);
+    let b1 = bound_at(kept, event.base);
+    let b2 = bound_at(kept, event.other);
+    VersionBounds {
         kind,
-        bound: size_bound(kind, event, b1, b2),
+        first: size_bound(kind, event, b1, b2),
+        second: bound_of_second(event, b1),
     }
 }
 
 /// The places that an event of a kind may take: its own, and eight for each step that its due pays.
-fn next_places(versions: &[VersionBound], kind: Kind, event: &Event) -> u64
-    ensures { result ≡ next_places versions.now kind event.now }
+fn next_places(kept: &[VersionBounds], kind: Kind, event: &Event) -> u64
+    ensures { result ≡ next_places kept.now kind event.now }
 {
-    let n1 = bound_at(versions, event.base);
-    let n2 = bound_at(versions, event.other);
+    let n1 = bound_at(kept, event.base);
+    let n2 = bound_at(kept, event.other);
     direct(kind, event.op, n1, n2) + 8 * due(kind, event.op, n1, n2)
 }
 
@@ -77,27 +93,28 @@ pub fn room(alloc: Global, events: &[Event]) -> Result<u64, NoMemory>
     requires { IsScript events.now }
     ensures { IfOk result (λ places. places ≡ room events.now) }
 {
-    let mut versions = Vec::with_capacity(alloc, events.len()).map_err(|_| NoMemory)?;
+    let mut kept = Vec::with_capacity(alloc, events.len()).map_err(|_| NoMemory)?;
     let mut total = 0;
     for event in events {
-        let version = next_version(&versions, event);
-        total += next_places(&versions, version.kind, event);
-        versions.push(version).map_err(|_| NoMemory)?;
+        let versions = next_versions(&kept, event);
+        total += next_places(&kept, versions.kind, event);
+        kept.push(versions).map_err(|_| NoMemory)?;
     }
     Ok(total)
 }
 
-/// The sum of the size bounds of all versions of a script: what a model that copies lists holds at most. It is below 2^49.
+/// The sum of the size bounds of all versions of a script, both of a split: what a model that copies lists holds at most.
+/// It is below 2^49.
 pub fn model_size(alloc: Global, events: &[Event]) -> Result<u64, NoMemory>
     requires { IsScript events.now }
     ensures { IfOk result (λ items. items ≡ model_size events.now) }
 {
-    let mut versions = Vec::with_capacity(alloc, events.len()).map_err(|_| NoMemory)?;
+    let mut kept = Vec::with_capacity(alloc, events.len()).map_err(|_| NoMemory)?;
     let mut total = 0;
     for event in events {
-        let version = next_version(&versions, event);
-        total += version.bound as u64;
-        versions.push(version).map_err(|_| NoMemory)?;
+        let versions = next_versions(&kept, event);
+        total += versions.first as u64 + versions.second as u64;
+        kept.push(versions).map_err(|_| NoMemory)?;
     }
     Ok(total)
 }
@@ -119,45 +136,46 @@ mod tests {
     use super::*;
     use std::test::Fail;
 
+    /// Events by operation, base, other and argument.
+    macro_rules! events {
+        ($($op:expr, $base:literal $other:literal $arg:literal;)*) => {
+            [$(Event { op: $op, base: $base, other: $other, arg: $arg }),*]
+        };
+    }
+
     /// The smallest rotation: a queue, one item in, looked at, taken out, looked at again.
-    const ROTATION: [Event; 5] = [
-        Event {
-            op: Op::New(Kind::Bankq),
-            base: 0,
-            other: 0,
-            arg: 0,
-        },
-        Event {
-            op: Op::Snoc,
-            base: 1,
-            other: 0,
-            arg: 5,
-        },
-        Event {
-            op: Op::Head,
-            base: 2,
-            other: 0,
-            arg: 0,
-        },
-        Event {
-            op: Op::Tail,
-            base: 2,
-            other: 0,
-            arg: 0,
-        },
-        Event {
-            op: Op::Head,
-            base: 4,
-            other: 0,
-            arg: 0,
-        },
-    ];
+    const ROTATION: [Event; 5] = events! {
+        Op::New(Kind::Bankq), 0 0 0;
+        Op::Snoc, 1 0 5;
+        Op::Head, 2 0 0;
+        Op::Tail, 2 0 0;
+        Op::Head, 4 0 0;
+    };
+
+    /// A sequence of two items that is cut, and its second part cut again.
+    const CUTS: [Event; 6] = events! {
+        Op::New(Kind::Seq), 0 0 0;
+        Op::Pushr, 1 0 1;
+        Op::Pushr, 2 0 2;
+        Op::Split, 3 0 1;
+        Op::Split, 2147483652 0 5;
+        Op::First, 2147483653 0 0;
+    };
 
     /// By hand the events take 1, 3 + 8 * 1, 0, 2 + 8 * 2 and 0 places, and the size bounds are 0, 1, 1, 0 and 0.
     #[test]
     fn smallest_rotation(rt: HostRuntime) -> Result<(), Fail> {
         assert_eq!(rt; room(rt.alloc(), &ROTATION)?, 30);
         assert_eq!(rt; model_size(rt.alloc(), &ROTATION)?, 2);
+        Ok(())
+    }
+
+    /// By hand the events take 0, 6 + 8 * 1, 6 + 8 * 2, 24 + 8 * 8, 16 + 8 * 2 and 0 places, and the size bounds are 0, 1, 2,
+    /// 1 and 1, 1 and 0, and 0.
+    #[test]
+    fn second_versions(rt: HostRuntime) -> Result<(), Fail> {
+        assert_eq!(rt; room(rt.alloc(), &CUTS)?, 156);
+        assert_eq!(rt; model_size(rt.alloc(), &CUTS)?, 6);
         Ok(())
     }
 }

@@ -15,7 +15,7 @@ macro_rules! lines {
     };
 }
 
-static LINES: [Line; 55] = lines! {
+static LINES: [Line; 56] = lines! {
     Stream Op::New(Kind::Stream), false, [0, 0, 0, 0, 0, 0, 0, 0, 0], [1, 1, 1, 1, 1, 1, 1, 1, 1];
     Stream Op::Size, false, [0, 0, 0, 0, 0, 0, 0, 0, 0], [0, 0, 0, 0, 0, 0, 0, 0, 0];
     Stream Op::Cons, false, [0, 0, 0, 0, 0, 0, 0, 0, 0], [2, 2, 2, 2, 2, 2, 2, 2, 2];
@@ -51,6 +51,7 @@ static LINES: [Line; 55] = lines! {
     Seq Op::Take, true, [0, 1, 4, 4, 9, 16, 100, 121, 961], [4, 8, 12, 12, 16, 20, 44, 48, 128];
     Seq Op::Drop, true, [0, 1, 4, 4, 9, 16, 100, 121, 961], [4, 8, 12, 12, 16, 20, 44, 48, 128];
     Seq Op::Concat, false, [31, 11, 11, 4, 4, 4, 11, 11, 31], [8, 8, 8, 8, 8, 8, 8, 8, 8];
+    Seq Op::Split, true, [0, 2, 8, 8, 18, 32, 200, 242, 1922], [8, 16, 24, 24, 32, 40, 88, 96, 256];
     Prio Op::New(Kind::Prio), false, [0, 0, 0, 0, 0, 0, 0, 0, 0], [0, 0, 0, 0, 0, 0, 0, 0, 0];
     Prio Op::Size, false, [0, 0, 0, 0, 0, 0, 0, 0, 0], [0, 0, 0, 0, 0, 0, 0, 0, 0];
     Prio Op::Insert, false, [1, 2, 2, 3, 4, 4, 11, 11, 32], [6, 6, 6, 6, 6, 6, 6, 6, 6];

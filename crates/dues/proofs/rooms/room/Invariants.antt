@@ -3,4 +3,4 @@ use Rattle.dues.proofs.VersionLaws.{IsPassed}
 use Rattle.dues.proofs.rooms.room.Given as goal
 
 abbrev pub invariant-loop-event : goal.invariant-loop-event
-invariant-loop-event l = IsPassed l.events (places_to l.events) l.versions.items l.event-index l.total
+invariant-loop-event l = IsPassed l.events (places_to l.events) l.kept.items l.event-index l.total
