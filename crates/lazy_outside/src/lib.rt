@@ -1,6 +1,11 @@
 //! The outside as the rest sees it: where bytes come from, where bytes go, and where workers may be held up. Beside the
 //! traits stand sources and sinks in memory, the standard ends, and the two calls that read a source to its end and write
 //! a text whole.
+//!
+//! `Source` and `Sink` stand beside std's `Read` and `Write` for what contracts above have to say of failures. Each end
+//! counts its failed calls, so a fault is answered only where a call failed, and a success only where none did. A failed
+//! call takes and gives nothing, and the end comes only where nothing is left. An end tells its bytes, as those in memory
+//! do, or tells none, as the standard ends. An error's kind and an interrupted call are not seen above.
 #![tactic(auto)]
 
 mod gates;
@@ -35,7 +40,7 @@ pub enum Taken {
 pub enum Given {
     /// So many bytes of the piece, at least one, were taken off its front.
     Bytes(usize),
-    /// The call failed, and nothing of the piece was taken.
+    /// The call failed. Where the sink tells its bytes, nothing of the piece was taken.
     Failed,
 }
 
@@ -52,7 +57,8 @@ pub trait Source {
         requires { 0 < length buf.old }
         ensures bytes { Takes (left self.old) (left self.new) result buf.new }
         ensures never_falls { faults self.old ≤ faults self.new }
-        ensures failed { result ≡ Taken.Failed → Rises (faults self.old) (faults self.new) };
+        ensures failed { result ≡ Taken.Failed → Rises (faults self.old) (faults self.new) }
+        ensures still { (result ≡ Taken.Failed → ⊥) → faults self.new ≡ faults self.old };
 }
 
 /// Where bytes go.
@@ -68,7 +74,8 @@ pub trait Sink {
         requires { 0 < length piece.now }
         ensures bytes { Gives (holds self.old) (holds self.new) result piece.now }
         ensures never_falls { faults self.old ≤ faults self.new }
-        ensures failed { result ≡ Given.Failed → Rises (faults self.old) (faults self.new) };
+        ensures failed { result ≡ Given.Failed → Rises (faults self.old) (faults self.new) }
+        ensures still { (result ≡ Given.Failed → ⊥) → faults self.new ≡ faults self.old };
 }
 
 #[cfg(test)]

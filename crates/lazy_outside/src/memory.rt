@@ -59,6 +59,7 @@ impl Source for MemSource {
         ensures bytes { Takes (Some self.old.left) (Some self.new.left) result buf.new }
         ensures never_falls { self.old.faults ≤ self.new.faults }
         ensures failed { result ≡ Taken.Failed → Rises self.old.faults self.new.faults }
+        ensures still { (result ≡ Taken.Failed → ⊥) → self.new.faults ≡ self.old.faults }
 
         // Which call fails, how many bytes another gives, and how the source is left.
         ensures fails { result ≡ Taken.Failed ↔ Contains self.old.failing (self.old.calls + 1) }
@@ -143,6 +144,7 @@ impl Sink for MemSink {
         ensures bytes { Gives (Some self.old.held) (Some self.new.held) result piece.now }
         ensures never_falls { self.old.faults ≤ self.new.faults }
         ensures failed { result ≡ Given.Failed → Rises self.old.faults self.new.faults }
+        ensures still { (result ≡ Given.Failed → ⊥) → self.new.faults ≡ self.old.faults }
 
         // Which call fails, how many bytes another takes, and how the sink is left.
         ensures fails { result ≡ Given.Failed ↔ ((self.old.room ≡ 0) ⊎ Contains self.old.failing (self.old.calls + 1)) }

@@ -1,5 +1,10 @@
+ghost use Rattle.std.specs.Prelude.{◌≡◌, None, IfOk};
+
+use crate::streams::{flush, give_to, take_from};
 use crate::*;
 use std::alloc::{AllocError, Global};
+use std::io;
+use std::io::{ErrorKind, Read, Write};
 use std::test::Fail;
 
 const TEXT: &[u8; 10] = b"new bankq\n";
@@ -87,6 +92,141 @@ fn writes_by_pieces(rt: HostRuntime) -> Result<(), Fail> {
         );
     }
     assert_eq!(rt; write_whole(&mut SureSink::new(), LINES), Ok(()));
+    Ok(())
+}
+
+// Of its calls a signal interrupts the first ones, and the others fail or do the whole.
+#[derive(Drop)]
+struct Signalled {
+    signals: u8,
+    fails: bool,
+}
+
+impl Signalled {
+    fn answer(&mut self, len: usize) -> io::Result<usize>
+        ensures { IfOk result (λ n. n ≡ len) }
+    {
+        if self.signals > 0 {
+            self.signals -= 1;
+            return Err(ErrorKind::Interrupted.into());
+        }
+        if self.fails {
+            return Err(ErrorKind::BrokenPipe.into());
+        }
+        Ok(len)
+    }
+}
+
+impl Read for Signalled {
+    fn read(&mut self, buf: &mut [u8]) -> io::Result<usize> {
+        self.answer(buf.len())
+    }
+}
+
+impl Write for Signalled {
+    fn write(&mut self, buf: &[u8]) -> io::Result<usize> {
+        self.answer(buf.len())
+    }
+
+    fn flush(&mut self) -> io::Result<()> {
+        self.answer(0)?;
+        Ok(())
+    }
+}
+
+#[test]
+fn interrupted_calls_are_made_again(rt: HostRuntime) {
+    let mut buf = [0; 8];
+    for (signals, fails, taken, given) in [
+        (0, false, Taken::Bytes(8), Given::Bytes(10)),
+        (3, false, Taken::Bytes(8), Given::Bytes(10)),
+        (3, true, Taken::Failed, Given::Failed),
+    ] {
+        let mut end = Signalled { signals, fails };
+        assert_eq!(rt; take_from(&mut end, &mut buf), taken);
+        let mut end = Signalled { signals, fails };
+        assert_eq!(rt; give_to(&mut end, LINES), given);
+        let mut end = Signalled { signals, fails };
+        assert_eq!(rt; flush(&mut end), !fails);
+    }
+}
+
+// Gives a byte at every other call, and says that it ends at the others, as a terminal may.
+#[derive(Drop)]
+struct Bursts {
+    calls: u64,
+}
+
+impl Source for Bursts {
+    ghost left = { λ _. None };
+
+    ghost faults = { λ _. 0 };
+
+    fn take(&mut self, buf: &mut [u8]) -> Taken {
+        self.calls = self.calls.wrapping_add(1);
+        if self.calls % 2 == 0 {
+            return Taken::End;
+        }
+        buf[0] = 7;
+        Taken::Bytes(1)
+    }
+}
+
+#[test]
+fn nothing_is_taken_after_the_end(rt: HostRuntime) -> Result<(), Fail> {
+    let mut bursts = Bursts { calls: 0 };
+    let bytes = read_whole(rt.alloc(), &mut bursts).map_err(|_| "a read fault")?;
+    assert_eq!(rt; bytes.as_slice(), [7].as_slice());
+    assert_eq!(rt; bursts.calls, 2);
+
+    let mut source = source(rt.alloc(), 64, &[])?;
+    read_whole(rt.alloc(), &mut source).map_err(|_| "a read fault")?;
+    let bytes = read_whole(rt.alloc(), &mut source).map_err(|_| "a read fault")?;
+    assert_eq!(rt; bytes.len(), 0);
+    Ok(())
+}
+
+// Takes four bytes a call, and notes how long each piece was.
+#[derive(Drop)]
+struct Noting {
+    lens: [usize; 8],
+    calls: usize,
+}
+
+impl Sink for Noting {
+    ghost holds = { λ _. None };
+
+    ghost faults = { λ _. 0 };
+
+    fn give(&mut self, piece: &[u8]) -> Given {
+        self.lens[self.calls % 8] = piece.len();
+        self.calls = self.calls.wrapping_add(1);
+        Given::Bytes(piece.len().min(4))
+    }
+}
+
+#[test]
+fn each_give_is_of_the_whole_rest(rt: HostRuntime) {
+    let mut sink = Noting {
+        lens: [0; 8],
+        calls: 0,
+    };
+    assert_eq!(rt; write_whole(&mut sink, LINES), Ok(()));
+    assert_eq!(rt; sink.lens, [10, 6, 2, 0, 0, 0, 0, 0]);
+}
+
+#[test]
+fn errors_have_texts(rt: HostRuntime) -> Result<(), Fail> {
+    for (error, text) in [
+        (ReadError::TooLarge, "larger than 16777216 bytes"),
+        (ReadError::Failed, "read fault"),
+        (ReadError::NoMemory, "out of memory"),
+    ] {
+        let said = format!(in rt.alloc(); "{error}")?;
+        assert_eq!(rt; said.as_str(), text);
+    }
+    let said = format!(in rt.alloc(); "{WriteError}")?;
+    assert_eq!(rt; said.as_str(), "write fault");
     Ok(())
 }
 

@@ -6,6 +6,7 @@ ghost use Rattle.lazy_outside.specs.Faults.{Rises};
 
 use crate::{Given, Sink, Source, Taken};
 use std::alloc::{AllocError, Global};
+use thiserror::Error;
 
 /// The most bytes that are read.
 pub const MOST_BYTES: usize = 16_777_216;
@@ -14,18 +15,22 @@ pub const MOST_BYTES: usize = 16_777_216;
 const STEP: usize = 65_536;
 
 /// Why a source was not read to its end.
-#[derive(Clone, Copy, Debug, PartialEq, Eq)]
+#[derive(Clone, Copy, Debug, PartialEq, Eq, Error)]
 pub enum ReadError {
     /// It gave one byte more than is read.
+    #[error("larger than {} bytes", MOST_BYTES)]
     TooLarge,
     /// A take failed.
+    #[error("read fault")]
     Failed,
     /// There was no memory for the bytes.
+    #[error("out of memory")]
     NoMemory,
 }
 
 /// A give failed.
-#[derive(Clone, Copy, Debug, PartialEq, Eq)]
+#[derive(Clone, Copy, Debug, PartialEq, Eq, Error)]
+#[error("write fault")]
 pub struct WriteError;
 
 /// Takes bytes until the end, and answers all of them. What was taken before an error is lost.
@@ -42,6 +47,7 @@ pub fn read_whole<S: Source>(alloc: Global, source: &mut S) -> Result<Vec<u8>, R
     ensures front { OnErr result ((bytes : List ℕ) × Consumes (S.left source.old) (S.left source.new) bytes) }
     ensures failed { IsErrOf result ReadError.Failed → Rises (S.faults source.old) (S.faults source.new) }
     ensures never_falls { S.faults source.old ≤ S.faults source.new }
+    ensures no_fault { OnOk result (S.faults source.new ≡ S.faults source.old) }
 {
     let mut bytes = Vec::new(alloc);
     let mut filled = 0;
@@ -81,7 +87,8 @@ fn make_room(bytes: &mut Vec<u8>, filled: usize) -> Result<(), AllocError>
 ///
 /// # Errors
 ///
-/// A `WriteError` as soon as a give failed. Then the sink took a part of the text from its front, and not the whole.
+/// A `WriteError` as soon as a give failed. Then a sink that tells its bytes took a part of the text from its front, and not
+/// the whole.
 #[tactic(auto, using(crate::proofs::Moves::Appends_front))]
 pub fn write_whole<K: Sink>(sink: &mut K, text: &[u8]) -> Result<(), WriteError>
     ensures whole { OnOk result (Appends (K.holds sink.old) (K.holds sink.new) text.now) }
@@ -89,6 +96,7 @@ pub fn write_whole<K: Sink>(sink: &mut K, text: &[u8]) -> Result<(), WriteError>
         × Appends (K.holds sink.old) (K.holds sink.new) (take n text.now)) }
     ensures failed { OnErr result (Rises (K.faults sink.old) (K.faults sink.new)) }
     ensures never_falls { K.faults sink.old ≤ K.faults sink.new }
+    ensures no_fault { OnOk result (K.faults sink.new ≡ K.faults sink.old) }
 {
     let mut given = 0;
     while given < text.len() {

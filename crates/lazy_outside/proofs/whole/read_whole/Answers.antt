@@ -17,4 +17,5 @@ loop-filled-preserved g c =
       within = c.make_room.ensures.within;
       front = rw (front _ _ (omega arith) taken.1 fits, kept) (Consumes-append _ _ _ _ _ c.loop-filled.invariant.front taken.2);
       never_falls = omega (arith, c.loop-filled.invariant.never_falls, c.take.ensures.never_falls);
+      still = c.take.ensures.still (λ e. (let f = c.in-Bytes.is in cc)) ∙ c.loop-filled.invariant.still;
     }
