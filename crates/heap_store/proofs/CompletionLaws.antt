@@ -3,7 +3,7 @@ use Rattle.std.proofs.Common.{ℕ, suc, ◌-◌, ◌+◌, eqb, ltb, Bool, true, 
 use Rattle.lazy_rec.specs.declared.records.Rec.{Rec}
 use Rattle.lazy_rec.specs.declared.records.Rec.TheVariants.{Cons, LCons, RtTop, CatNode, Node, Digit, Single, Deep, Append, BankRot, RtRot, LinkAll, PushL, PushR, DeepL, DeepR, Concat}
 use Rattle.heap_store.specs.World.{World, recs, holds, same_place, value_at}
-use Rattle.heap_store.specs.Completion.{on_cell, on_list_cell, is_cell, first_cell, same_bool, is_append, is_bank_rotation, is_rt_rotation, next_rt_rotation, on_queue, is_queue, is_new_rotation, is_queue_with, is_queue_after, next_links, is_linked, same_places, on_digit, on_node, is_digit, is_node, are_nodes, is_tree, Middle, tree, push_left, push_right, without_left, without_right, shorter_left, shorter_right, between, Made, one, deep, is_middle, is_middle_at, is_top, is_nil, is_list_nil}
+use Rattle.heap_store.specs.Completion.{on_cell, on_list_cell, is_cell, first_cell, same_bool, is_append, is_bank_rotation, is_rt_rotation, next_rt_rotation, on_rt_queue, is_queue, is_new_rotation, is_queue_with, is_queue_after, next_links, is_linked, same_places, on_digit, on_node, is_digit, is_node, are_nodes, is_tree, Middle, tree, push_left, push_right, without_left, without_right, shorter_left, shorter_right, between, Made, one, deep, is_middle, is_middle_at, is_top, is_nil, is_list_nil}
 use Rattle.heap_store.proofs.GrowthLaws.{Up, and_up, same_up, at_up, holds_up, place_up, value_up}
 use Rattle.heap_store.specs.Growth.{Grows}
 
@@ -25,7 +25,7 @@ is_cell_up c v f g up _ = same_up
 abbrev pub QueueTest : Type 0
 QueueTest = ℕ → ℕ → ℕ → ℕ → ℕ → Bool
 
-pub on_queue_up : (f g : QueueTest) → ((p l q m s : ℕ) → Up (f p l q m s) (g p l q m s)) → (r : Rec) → Up (on_queue f r) (on_queue g r)
+pub on_queue_up : (f g : QueueTest) → ((p l q m s : ℕ) → Up (f p l q m s) (g p l q m s)) → (r : Rec) → Up (on_rt_queue f r) (on_rt_queue g r)
 on_queue_up f g up (RtTop front lenf rear lenr sched) = up front.0 lenf rear.0 lenr sched.0
 on_queue_up f g up _ = same_up
 
@@ -121,7 +121,7 @@ module _ (a b : World) (x : Grows a b) where
   is_middle_up origin off (between l r ns) (Concat l' r' d _ _ _ _) = and_up (and_up (and_up (and_up (place_up a b x l l'.0) (place_up a b x r r'.0)) (holds_up a b x d.0 _ _ (on_digit_up _ _ (are_nodes_up ns)))) same_up) same_up
   is_middle_up origin off _ _ = same_up
 
-  is_middle_at_up : (origin off : ℕ) (m : Middle) (p : ℕ) → Up (is_middle_at a origin off m p) (is_middle_at b origin off m p)
+  pub is_middle_at_up : (origin off : ℕ) (m : Middle) (p : ℕ) → Up (is_middle_at a origin off m p) (is_middle_at b origin off m p)
   is_middle_at_up origin off (tree t) p = is_tree_up t p
   is_middle_at_up origin off m p = holds_up a b x p _ _ (is_middle_up origin off m)
 

@@ -15,6 +15,7 @@ use Rattle.heap_store.proofs.NameLaws.{NamesWell, IsNamedWell}
 use Rattle.heap_store.specs.Growth.{Grows}
 use Rattle.lazy_rec.specs.Named.{named, sort_of, sort_number, same_sort, at_record, is_pending}
 use Rattle.lazy_rec.specs.Tests.{is_some_and}
+use Rattle.lazy_rec.proofs.HistoryLaws.{all_true}
 
 -- ---- sorts
 
@@ -45,20 +46,19 @@ pub at_true : (test : Rec → Bool) (o : Option Rec) → at_record false test o 
 at_true test None h = absurd (true≢false (sym h))
 at_true test (Some r) h = (r, refl, h)
 
-pub all_true : {X : Type 0} (test : X → Bool) (xs : List X) → list_all test xs ≡ true → AllByRecursion (λ x. test x ≡ true) xs
-all_true test [] h = tt
-all_true test (x ∷ xs) h = let k = and_parts (test x) (list_all test xs) h in (k.0, all_true test xs k.1)
-
 pub all_map : {X : Type 0} (P Q : X → Type 0) → ((x : X) → P x → Q x) → (xs : List X) → AllByRecursion P xs → AllByRecursion Q xs
 all_map P Q f [] h = tt
 all_map P Q f (x ∷ xs) h = (f x h.0, all_map P Q f xs h.1)
 
--- the places that records name, as a fact
-pub names_of : (w : World) → EachRecord w (names_well w) → NamesWell (recs w)
-names_of w h p r e = all_map (λ q. is_named_well (recs w) p q ≡ true) (IsNamedWell (recs w) p) (λ q k.
+-- the places that a record names, as a fact
+pub named_of : (w : World) (p : ℕ) (r : Rec) → names_well w p r ≡ true → AllByRecursion (IsNamedWell (recs w) p) (named r)
+named_of w p r h = all_map (λ q. is_named_well (recs w) p q ≡ true) (IsNamedWell (recs w) p) (λ q k.
     let parts = and_parts (ltb q.0 p) (holds (recs w) q.0 (λ s. same_sort (sort_of s) q.1)) k in
     let there = at_true (λ s. same_sort (sort_of s) q.1) (recs w q.0) parts.1 in
-    (ltb-true q.0 p parts.0, there.0, there.1, sorts_agree (sort_of there.0) q.1 there.2)) (named r) (all_true (is_named_well (recs w) p) (named r) (h p r e))
+    (ltb-true q.0 p parts.0, there.0, there.1, sorts_agree (sort_of there.0) q.1 there.2)) (named r) (all_true (is_named_well (recs w) p) (named r) h)
+
+pub names_of : (w : World) → EachRecord w (names_well w) → NamesWell (recs w)
+names_of w h p r e = named_of w p r (h p r e)
 
 -- ---- tests that last
 
@@ -77,7 +77,7 @@ same_up h = h
 pub at_up : (f g : Rec → Bool) (o o' : Option Rec) → ((r : Rec) → o ≡ Some r → o' ≡ Some r) → ((r : Rec) → Up (f r) (g r)) → Up (at_record false f o) (at_record false g o')
 at_up f g o o' k up h = let there = at_true f o h in rw (k there.0 there.1) (up there.0 there.2)
 
-done_by_state : (w : World) (p : ℕ) → done_at w p ≡ option_and_then kept (state_at w p)
+pub done_by_state : (w : World) (p : ℕ) → done_at w p ≡ option_and_then kept (state_at w p)
 done_by_state w p = go (node_at w p)
   where
     go : (o : Option Node) → option_and_then (λ (n : Node). kept n.state) o ≡ option_and_then kept (option_map (λ (n : Node). n.state) o)

@@ -1,7 +1,7 @@
 -- A world with one more record, or with another state of a suspension, is lawful.
 use Rattle.std.proofs.Common.{◌≡◌, ℕ, zero, suc, ◌<◌, ◌≤◌, refl, sym, ap, ◌∙◌, arith, eqb, ltb, Bool, true, false, not, ◌||◌, ◌⊎◌, inl, inr, ⊎_elim, Option, Some, None, List, [], ◌∷◌, length}
 use Rattle.std.specs.Prelude.{option_map, option_and_then, slice_index_or}
-use Rattle.std.specs.List.{list_all}
+use Rattle.std.specs.List.{AllByRecursion, list_all}
 use Rattle.std.proofs.lemmas.Bool.{true≢false, cases_eq, and_parts, and_from, or_cases, or_left, or_right, eqb-true, eq-eqb}
 use Rattle.lazy_rec.specs.declared.records.Rec.{Rec}
 use Rattle.lazy_rec.specs.declared.records.Rec.TheVariants as recs_of
@@ -18,7 +18,7 @@ use Rattle.heap_store.specs.Growth.{Grows}
 use Rattle.heap_store.specs.Completion.{is_next}
 use Rattle.heap_store.specs.Lawful.{HasLaws, IsLawful, IsDoneWell, names_well, is_named_well, has_fixed, has_origin, has_maker, has_maker_at, is_maker}
 use Rattle.heap_store.specs.Hand.{Hand, IsLawfulHand, newest_makes, is_at_offset, has_no_next, is_claim_well}
-use Rattle.heap_store.proofs.NameLaws.{NamesWell, IsPublished}
+use Rattle.heap_store.proofs.NameLaws.{NamesWell, IsNamedWell, IsPublished}
 use Rattle.heap_store.proofs.GrowthLaws.{Up, and_up, same_up, at_true, holds_up, names_of}
 use Rattle.heap_store.proofs.RecordLaws.{sizes_up, unmixed_up, banks_up, rts_up, heaps_up, cats_up, fingers_up, low_names_up, done_well_up}
 use Rattle.heap_store.proofs.MadeLaws.{is_next_up}
@@ -76,9 +76,9 @@ names_up a b x p r = by (named r)
     by [] = same_up
     by (n ∷ ns) = and_up (and_up {x = ltb n.0 p} same_up (holds_up a b x n.0 _ _ (λ k. same_up))) (by ns)
 
--- the laws of a record last
-pub laws_up : (a b : World) → NamesWell (recs a) → Grows a b → (p : ℕ) (r : Rec) → recs a p ≡ Some r → HasLaws a p r → HasLaws b p r
-laws_up a b names x p r e h = record {
+-- the laws of a record that names published places last, also where it isn't published yet
+pub laws_named : (a b : World) → NamesWell (recs a) → Grows a b → (p : ℕ) (r : Rec) → AllByRecursion (IsNamedWell (recs a) p) (named r) → HasLaws a p r → HasLaws b p r
+laws_named a b names x p r e h = record {
   range = h.range;
   names = names_up a b x p r h.names;
   sizes = sizes_up (recs a) (recs b) names x.records p r e h.sizes;
@@ -90,6 +90,9 @@ laws_up a b names x p r e h = record {
   finger = fingers_up (recs a) (recs b) names x.records p r e h.finger;
   heights = low_names_up (recs a) (recs b) names x.records p r e h.heights;
 }
+
+pub laws_up : (a b : World) → NamesWell (recs a) → Grows a b → (p : ℕ) (r : Rec) → recs a p ≡ Some r → HasLaws a p r → HasLaws b p r
+laws_up a b names x p r e h = laws_named a b names x p r (names p r e) h
 
 fixed_up : (a b : World) → Grows a b → Up (has_fixed (recs a)) (has_fixed (recs b))
 fixed_up a b x = and_up (and_up (and_up (and_up (holds_up a b x 0 _ _ (λ r. same_up)) (holds_up a b x 1 _ _ (λ r. same_up))) (holds_up a b x 2 _ _ (λ r. same_up))) (holds_up a b x 3 _ _ (λ r. same_up))) (holds_up a b x 4 _ _ (λ r. same_up))
@@ -114,7 +117,7 @@ pub record Made (w : World) (origin off : ℕ) (r : Rec) : Type 0 where
   pub next : is_next w rec r ≡ true
   pub taken : is_taken w place ≡ true
 
-made_to : (w : World) (origin off : ℕ) (r : Rec) → has_maker_at w r origin (suc off) ≡ true → Made w origin off r
+pub made_to : (w : World) (origin off : ℕ) (r : Rec) → has_maker_at w r origin (suc off) ≡ true → Made w origin off r
 made_to w origin off r h =
     let k = some_to (length w.nodes) (recs w) (is_maker w origin off r) h in
     let p1 = and_parts _ _ k.3 in

@@ -22,7 +22,7 @@ use Rattle.lazy_rec.specs.Units.{family_of}
 
 -- ---- the forests and the plain cells
 
-forest_look : LooksAtNamed forest_of
+pub forest_look : LooksAtNamed forest_of
 forest_look (HeapTop list _ _) g h s = s.0
 forest_look (TCons tree rest) g h s = rw (s.0, s.1.0) refl
 forest_look (Tree _ _ kids) g h s = rw s.0 refl
@@ -30,11 +30,11 @@ forest_look (HeapInsert _ list _) g h s = rw s.0 refl
 forest_look (HeapMerge list1 list2 _ _) g h s = rw (s.0, s.1.0) refl
 forest_look _ g h s = refl
 
-trees_only_look : LooksAtNamed trees_only_of
+pub trees_only_look : LooksAtNamed trees_only_of
 trees_only_look (TCons tree rest) g h s = s.1.0
 trees_only_look _ g h s = refl
 
-plain_look : LooksAtNamed plain_of
+pub plain_look : LooksAtNamed plain_of
 plain_look (Cons _ _ rest) g h s = s.0
 plain_look _ g h s = refl
 
@@ -100,14 +100,14 @@ module _ (a b : World) (names : NamesWell (recs a)) (x : Grows a b) where
       by (Digit count e1 e2 e3 e4 _ _) h = of_names sorts.Element count p (e1.0 ∷ e2.0 ∷ e3.0 ∷ e4.0 ∷ []) h
       by _ h = tt
 
-  level_up : (q : ℕ) (r : Rec) → recs a q ≡ Some r → top_of_record a r ≡ top_of_record b r
+  pub level_up : (q : ℕ) (r : Rec) → recs a q ≡ Some r → top_of_record a r ≡ top_of_record b r
   level_up q (Deep left middle right _ _) e = let n = names q (Deep left middle right _ _) e in
       rw (elements_up left.0 (there q _ n.0), elements_up right.0 (there q _ n.1.1.0)) refl
   level_up q TEmpty e = refl
   level_up q (Single _ _ _) e = refl
   level_up q _ e = refl
 
-  top_at_up : (p : ℕ) (t : Made) → top_at a p ≡ Some t → top_at b p ≡ Some t
+  pub top_at_up : (p : ℕ) (t : Made) → top_at a p ≡ Some t → top_at b p ≡ Some t
   top_at_up p = then_up (top_of_record a) (top_of_record b) (value_at a p) (value_at b p) (λ r e. (value_up a b x p r e, (λ t k. let q = value_place p r e in sym (level_up q.0 r q.1) ∙ k)))
 
   left_up : (q : ℕ) (r : Rec) (digit : List ℕ) → recs a q ≡ Some r → from_middle_left a r digit ≡ from_middle_left b r digit
@@ -130,7 +130,7 @@ module _ (a b : World) (names : NamesWell (recs a)) (x : Grows a b) where
       by same (f ∷ fs) h = rw (elements_up f h.0, same) refl
   right_up q _ digit e = refl
 
-  made_tree_up : (p : ℕ) (r : Rec) → recs a p ≡ Some r → (t : Made) → made_tree a r ≡ Some t → made_tree b r ≡ Some t
+  pub made_tree_up : (p : ℕ) (r : Rec) → recs a p ≡ Some r → (t : Made) → made_tree a r ≡ Some t → made_tree b r ≡ Some t
   made_tree_up p (PushL t' count e1 e2 _ _ _ _) e t h = map_up _ (top_at a t'.0) (top_at b t'.0) (top_at_up t'.0) t h
   made_tree_up p (PushR t' count e1 e2 _ _ _ _) e t h = map_up _ (top_at a t'.0) (top_at b t'.0) (top_at_up t'.0) t h
   made_tree_up p (DeepL middle digit z o i k) e t h = let n = names p (DeepL middle digit z o i k) e in
@@ -178,13 +178,13 @@ module _ (a b : World) (names : NamesWell (recs a)) (x : Grows a b) where
 
   -- what a completion made
   pub is_made_up : (p : ℕ) (r : Rec) (place : ℕ) → recs a p ≡ Some r → IsPublished (recs a) place → Up (is_made a p r place) (is_made b p r place)
-  is_made_up p (Append xs ys left origin off) place e is = first_of_up xs.0 place _ _ (λ rest made. cond_up (eqb left 1) (place_up a b x ys.0 made) (holds_up a b x made _ _ (is_append_up a b x rest ys.0 (left - 1) origin.0 (suc off))))
+  is_made_up p (Append xs ys left origin off) place e is = first_of_up xs.0 place _ _ (λ rest made. cond_up (eqb left 1) same_up (holds_up a b x made _ _ (is_append_up a b x rest ys.0 (left - 1) origin.0 (suc off))))
   is_made_up p (Reverse _ _) place e is = λ h. sym (plain_kept (recs a) (recs b) names x.records place is) ∙ h
   is_made_up p (BankRot xs rear left origin off) place e is = cond_up (eqb left 0)
       (λ h. sym (plain_kept (recs a) (recs b) names x.records place is) ∙ h)
       (first_of_up xs.0 place _ _ (λ rest made. holds_up a b x made _ _ (is_bank_up a b x rest rear.0 (left - 1) origin.0 (suc off))))
   is_made_up p (RtRot xs rear acc left origin off) place e is = cond_up (eqb left 0)
-      (holds_up a b x rear.0 _ _ (on_list_cell_up _ _ (λ c v _. holds_up a b x place _ _ (is_cell_up c v _ _ (place_up a b x acc.0)))))
+      (holds_up a b x rear.0 _ _ (on_list_cell_up _ _ (λ c v _. holds_up a b x place _ _ (is_cell_up c v _ _ (λ r. same_up)))))
       (first_of_up xs.0 place _ _ (λ rest made. holds_up a b x made _ _ (next_rt_up a b x rest rear.0 acc.0 left origin.0 off)))
   is_made_up p (HeapInsert i l z) place e is = same_forest_up p place (HeapInsert i l z, e) is
   is_made_up p (HeapMerge l m y z) place e is = same_forest_up p place (HeapMerge l m y z, e) is

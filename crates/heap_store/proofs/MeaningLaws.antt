@@ -7,7 +7,7 @@ use Rattle.lazy_rec.specs.declared.records.Sort.{Sort}
 use Rattle.lazy_rec.specs.declared.records.Sort.TheVariants as sorts
 use Rattle.lazy_rec.specs.ByPlace.{below, by_place}
 use Rattle.lazy_rec.specs.Meaning.{Entry, an_item, a_child, entry, by_record, cells_of, cells, items_of, joined, means_of, means_at, means}
-use Rattle.heap_store.proofs.ByPlaceLaws.{below_low, by_place_agree, from_lower}
+use Rattle.lazy_rec.proofs.ByPlaceLaws.{below_low, by_place_agree, from_lower}
 use Rattle.heap_store.proofs.Alls.{All-map, All-append, All-take, All-reverse}
 use Rattle.heap_store.proofs.NameLaws.{IsPublished, IsNamedWell, NamesWell, LooksAtNamed}
 use Rattle.heap_store.specs.World.{Keeps}
@@ -84,7 +84,7 @@ module _ (a : Records) (p : ℕ) (g h : ℕ → List ℕ) (same : (q : ℕ) → 
   items_same [] l = refl
   items_same (e ∷ es) l = rw (item_same e l.0, items_same es l.1) refl
 
-joined_same : (g h : ℕ → List ℕ) (s : Sort) (n : ℕ) (ps : List ℕ) → AllByRecursion (λ (q : NamedPlace). g q.0 ≡ h q.0) (take n (map (λ p. (p, s)) ps)) → joined g (take n ps) ≡ joined h (take n ps)
+pub joined_same : (g h : ℕ → List ℕ) (s : Sort) (n : ℕ) (ps : List ℕ) → AllByRecursion (λ (q : NamedPlace). g q.0 ≡ h q.0) (take n (map (λ p. (p, s)) ps)) → joined g (take n ps) ≡ joined h (take n ps)
 joined_same g h s zero ps k = refl
 joined_same g h s (suc n) [] k = refl
 joined_same g h s (suc n) (p ∷ ps) k = rw (k.0, joined_same g h s n ps k.1) refl
@@ -142,6 +142,10 @@ means_kept a b names keeps = by_place_agree [] _ _ (IsPublished a) (λ p g h is 
     ap (means_at a g p) is.1
     ∙ means_same a b names keeps p g h same is.0 is.1 (names p is.0 is.1) (All-map (IsNamedWell a p) _ (λ q w. same q.0 w.0 (w.1, w.2)) (named is.0) (names p is.0 is.1))
     ∙ sym (ap (means_at b h p) (keeps p is.0 is.1)))
+
+-- so it does what a record means, from what it names
+pub means_of_kept : (a b : Records) (names : NamesWell a) → Keeps a b → (p : ℕ) (r : Rec) → a p ≡ Some r → means_of a (means a) p r ≡ means_of b (means b) p r
+means_of_kept a b names keeps p r e = means_same a b names keeps p (means a) (means b) (λ q l is. means_kept a b names keeps q is) r e (names p r e) (All-map (IsNamedWell a p) _ (λ q w. means_kept a b names keeps q.0 (w.1, w.2)) (named r) (names p r e))
 
 -- at a published place the meaning is that of the record, from the meanings of other places
 pub means_is : (a : Records) → NamesWell a → (p : ℕ) (r : Rec) → a p ≡ Some r → means a p ≡ means_of a (means a) p r

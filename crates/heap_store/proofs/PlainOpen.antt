@@ -1,33 +1,38 @@
 -- A store in which nothing is drawn.
-use Rattle.std.proofs.Common.{◌≡◌, ℕ, zero, suc, ◌+◌, ◌-◌, ◌<◌, ◌≤◌, true, false, [], ◌∷◌, length, Some, None, refl, sym, ap, ◌∙◌, arith, subst, ◌⊎◌, inl, inr, ⊎_elim}
-use Rattle.std.specs.Prelude.{option_map, option_and_then, is_some}
+use Rattle.std.proofs.Common.{◌≡◌, ℕ, zero, suc, ◌+◌, ◌-◌, ◌≤◌, true, false, [], ◌∷◌, length, Some, None, refl, sym, ap, ◌∙◌, arith, subst, ◌⊎◌, inl, inr, ⊎_elim}
+use Rattle.std.specs.Prelude.{option_map, option_and_then, cond, leb, Option}
 use Rattle.std.proofs.lemmas.Bool.{true≢false}
 use Rattle.std.proofs.lemmas.List.{get_or_default}
 use Rattle.lazy_rec.specs.declared.records.Rec.{Rec}
 use Rattle.lazy_rec.specs.declared.records.Rec.TheVariants.{Nil, LNil, TNil, CatNil, TEmpty}
 use Rattle.lazy_rec.specs.declared.states.SuspState.{SuspState}
 use Rattle.lazy_rec.specs.declared.states.SuspState.TheVariants.{Unforced}
-use Rattle.lazy_rec.specs.Named.{is_pending}
+use Rattle.lazy_rec.specs.Named.{at_record, is_pending}
 use Rattle.lazy_rec.specs.States.{kept}
 use Rattle.heap_store.specs.declared.nodes.Node.{Node}
-use Rattle.heap_store.specs.World.{World, recs, node_at, state_at, done_at, is_claimed_at, fixed_places}
-use Rattle.heap_store.specs.Rows.{Row, row_of, row_at, word_at, word, version_of_word}
+use Rattle.heap_store.specs.World.{World, recs, node_at, state_at, done_at, is_claimed_at, is_taken, fixed_places}
+use Rattle.heap_store.specs.declared.versions.Version.{Version}
+use Rattle.heap_store.specs.Rows.{Row, row_of, row_at, word_at, word, version_of, version_at}
 use Rattle.heap_store.specs.Legal.{IsLegal}
 use Rattle.heap_store.specs.Lawful.{HasLaws, IsLawful, has_origin, has_maker}
-use Rattle.heap_store.specs.Plain.{IsPlain, plain_world, fresh_node, five_records, is_claimed_node}
+use Rattle.lazy_rec.specs.Tests.{implies}
+use Rattle.lazy_rec.specs.History.{event_name}
+use Rattle.lazy_rec.specs.Units.{paid}
+use Rattle.heap_store.specs.Budget.{discharged, unit_count, sum_below, is_funded, is_settled, IsFunded, IsInBudget, alone_with}
+use Rattle.heap_store.specs.Plain.{IsPlain, held_things, free_places, plain_world, fresh_node, five_records, no_words, is_claimed_node}
 use Rattle.heap_store.proofs.ShowLaws.{one_value}
 use Rattle.heap_store.proofs.PlainLists.{filled-beyond, get_or-replicate_cases}
-use Rattle.heap_store.proofs.PlainWorlds.{rows_undrawn}
+use Rattle.heap_store.proofs.PlainWorlds.{rows_undrawn, zero_word}
 
 module _ (capacity row_capacity : ℕ) where
   abbrev opened : World
   opened = plain_world capacity row_capacity five_records []
 
-  none_beyond : (q : ℕ) → node_at (plain_world capacity row_capacity five_records []) (suc (suc (suc (suc (suc q))))) ≡ None
+  pub none_beyond : (q : ℕ) → node_at (plain_world capacity row_capacity five_records []) (suc (suc (suc (suc (suc q))))) ≡ None
   none_beyond q = get_or-replicate_cases None (fixed_places + capacity - 5) q
 
   -- a place shows nothing, or a record that was never touched
-  fresh_or_none : (p : ℕ) → (node_at (plain_world capacity row_capacity five_records []) p ≡ None) ⊎ ((r : Rec) × (node_at (plain_world capacity row_capacity five_records []) p ≡ fresh_node r))
+  pub fresh_or_none : (p : ℕ) → (node_at (plain_world capacity row_capacity five_records []) p ≡ None) ⊎ ((r : Rec) × (node_at (plain_world capacity row_capacity five_records []) p ≡ fresh_node r))
   fresh_or_none zero = inr (Nil, refl)
   fresh_or_none (suc zero) = inr (LNil, refl)
   fresh_or_none (suc (suc zero)) = inr (TNil, refl)
@@ -36,7 +41,7 @@ module _ (capacity row_capacity : ℕ) where
   fresh_or_none (suc (suc (suc (suc (suc q))))) = inl (none_beyond q)
 
   -- what holds of the five records holds of each
-  each_five : (P : ℕ → Rec → Type 0) → P 0 Nil → P 1 LNil → P 2 TNil → P 3 CatNil → P 4 TEmpty → (p : ℕ) (r : Rec) → recs (plain_world capacity row_capacity five_records []) p ≡ Some r → P p r
+  pub each_five : (P : ℕ → Rec → Type 0) → P 0 Nil → P 1 LNil → P 2 TNil → P 3 CatNil → P 4 TEmpty → (p : ℕ) (r : Rec) → recs (plain_world capacity row_capacity five_records []) p ≡ Some r → P p r
   each_five P a b c d e zero r h = subst (P 0) (one_value Nil r h) a
   each_five P a b c d e (suc zero) r h = subst (P 1) (one_value LNil r h) b
   each_five P a b c d e (suc (suc zero)) r h = subst (P 2) (one_value TNil r h) c
@@ -62,7 +67,7 @@ module _ (capacity row_capacity : ℕ) where
       (λ f. (let z : None ≡ Some s = sym (ap (option_map (λ (n : Node). n.state)) f) ∙ e in cc))
       (λ f. one_value (Unforced 0) s (sym (ap (option_map (λ (n : Node). n.state)) f.1) ∙ e)) (fresh_or_none p)
 
-  unclaimed : (p : ℕ) → is_claimed_at (plain_world capacity row_capacity five_records []) p ≡ false
+  pub unclaimed : (p : ℕ) → is_claimed_at (plain_world capacity row_capacity five_records []) p ≡ false
   unclaimed p = ⊎_elim (λ e. ap is_claimed_node e) (λ e. ap is_claimed_node e.1) (fresh_or_none p)
 
   opened_lawful : IsLawful (plain_world capacity row_capacity five_records [])
@@ -77,25 +82,19 @@ module _ (capacity row_capacity : ℕ) where
     still = λ p r e f s g. rw (← untouched p s g) refl;
   }
 
-  no_rows : (i : ℕ) → row_at (plain_world capacity row_capacity five_records []) i ≡ None
+  pub no_rows : (i : ℕ) → row_at (plain_world capacity row_capacity five_records []) i ≡ None
   no_rows zero = refl
   no_rows (suc k) = ⊎_elim (λ e. ap (row_of (suc k)) e) (λ e. ap (row_of (suc k)) e) (rows_undrawn row_capacity k [] (omega arith))
 
-  word_none : (i j : ℕ) → j < 6 → word_at (plain_world capacity row_capacity five_records []) i j ≡ 0
-  word_none zero j l = refl
-  word_none (suc k) j l = ⊎_elim (λ e. ap (λ ws. word ws j) e ∙ zeros j) (λ e. ap (λ ws. word ws j) e) (rows_undrawn row_capacity k [] (omega arith))
-    where
-      zeros : (j : ℕ) → word (0 ∷ 0 ∷ 0 ∷ 0 ∷ 0 ∷ 0 ∷ []) j ≡ 0
-      zeros zero = refl
-      zeros (suc zero) = refl
-      zeros (suc (suc zero)) = refl
-      zeros (suc (suc (suc zero))) = refl
-      zeros (suc (suc (suc (suc zero)))) = refl
-      zeros (suc (suc (suc (suc (suc zero))))) = refl
-      zeros (suc (suc (suc (suc (suc (suc j)))))) = refl
+  pub word_none : (i j : ℕ) → word_at (plain_world capacity row_capacity five_records []) i j ≡ 0
+  word_none zero j = refl
+  word_none (suc k) j = ⊎_elim (λ e. ap (λ ws. word ws j) e ∙ zero_word j) (λ e. ap (λ ws. word ws j) e) (rows_undrawn row_capacity k [] (omega arith))
 
-  rowless : (i : ℕ) (r : Row) → row_at (plain_world capacity row_capacity five_records []) i ≡ Some r → ⊥
+  pub rowless : (i : ℕ) (r : Row) → row_at (plain_world capacity row_capacity five_records []) i ≡ Some r → ⊥
   rowless i r e = let z : None ≡ Some r = sym (no_rows i) ∙ e in cc
+
+  versionless : (n : ℕ) (v : Version) → version_at (row_at (plain_world capacity row_capacity five_records [])) n ≡ Some v → ⊥
+  versionless n v f = let z : None ≡ Some v = sym (ap (option_and_then (λ (r : Row). version_of n r.ending)) (no_rows (event_name n))) ∙ f in cc
 
   opened_legal : IsLegal (plain_world capacity row_capacity five_records [])
   opened_legal = record {
@@ -104,25 +103,59 @@ module _ (capacity row_capacity : ℕ) where
     bases = λ i r e. absurd (rowless i r e);
     begun = λ i r e. absurd (rowless i r e);
     kinds = λ i r e. absurd (rowless i r e);
-    versions = λ i r e. absurd (rowless i r e);
+    seconds = λ i r e. absurd (rowless i r e);
+    versions = λ n v f. absurd (versionless n v f);
     replies = λ i r e. absurd (rowless i r e);
-    meanings = λ i r e. absurd (rowless i r e);
+    meanings = λ n v f. absurd (versionless n v f);
   }
+
+  -- nothing is discharged, given, claimed or done
+  opened_discharged : (n : ℕ) → discharged (recs (plain_world capacity row_capacity five_records [])) n ≡ []
+  unfolding discharged
+  opened_discharged zero = refl
+  opened_discharged (suc n) = rw (by (recs (plain_world capacity row_capacity five_records []) n) refl, opened_discharged n) refl
+    where
+      by : (o : Option Rec) → recs (plain_world capacity row_capacity five_records []) n ≡ o → at_record [] (paid (recs (plain_world capacity row_capacity five_records [])) n) o ≡ []
+      by None e = refl
+      by (Some r) e = each_five (λ p r. paid (recs (plain_world capacity row_capacity five_records [])) p r ≡ []) refl refl refl refl refl n r e
+
+  opened_given : (n : ℕ) → sum_below n (recs (plain_world capacity row_capacity five_records [])) (λ p r. cond (leb 5 p) 1 0) ≡ 0
+  opened_given zero = refl
+  opened_given (suc n) = omega (arith, by (recs (plain_world capacity row_capacity five_records []) n) refl, opened_given n)
+    where
+      by : (o : Option Rec) → recs (plain_world capacity row_capacity five_records []) n ≡ o → ◌≡◌ {A = ℕ} (at_record 0 (λ r. cond (leb 5 n) 1 0) o) 0
+      by None e = refl
+      by (Some r) e = each_five (λ p r. ◌≡◌ {A = ℕ} (cond (leb 5 p) 1 0) 0) refl refl refl refl refl n r e
+
+  opened_funded : IsFunded (plain_world capacity row_capacity five_records [])
+  opened_funded = record {
+    taken = each_five (λ p r. implies (is_pending r) (implies (is_taken (plain_world capacity row_capacity five_records []) p) (is_funded (plain_world capacity row_capacity five_records []) p r)) ≡ true) refl refl refl refl refl;
+    settled = each_five (λ p r. is_settled (plain_world capacity row_capacity five_records []) p r ≡ true) refl refl refl refl refl;
+  }
+
+  opened_budget : IsInBudget (alone_with (plain_world capacity row_capacity five_records []) (held_things [] (free_places 0 five_records) [] []))
+  opened_budget =
+      let w = plain_world capacity row_capacity five_records [] in
+      record {
+        paid = omega (arith, ap unit_count (opened_discharged (length w.nodes)));
+        places = omega (arith, opened_given (length w.nodes));
+      }
 
   pub opened_plain : capacity ≤ 4000000 → row_capacity ≤ 200000 → IsPlain capacity row_capacity five_records [] []
   opened_plain small rows_small = record {
     seen = record {
       lawful = opened_lawful;
       legal = opened_legal;
-      roots = record { roots = λ i r e. absurd (rowless i r e); looked = λ i r e. absurd (rowless i r e) };
+      roots = record { roots = λ n v f. absurd (versionless n v f); looked = λ i r e. absurd (rowless i r e) };
       well = refl;
       held = λ s. sym (unclaimed s);
-      wide = λ k l. ap length (get_or_default (plain_world capacity row_capacity five_records []).rows k [] (0 ∷ 0 ∷ 0 ∷ 0 ∷ 0 ∷ 0 ∷ []) l ∙ filled-beyond (0 ∷ 0 ∷ 0 ∷ 0 ∷ 0 ∷ 0 ∷ []) row_capacity [] k (omega arith));
-      versions = λ i. ap (λ z. is_some (version_of_word 0 z)) (word_none i 3 (omega arith));
-      unended = λ i e. word_none i 5 (omega arith);
+      wide = λ k l. ap length (get_or_default (plain_world capacity row_capacity five_records []).rows k [] no_words l ∙ filled-beyond no_words row_capacity [] k (omega arith));
+      unended = λ i e. word_none i 5;
     };
     marked = refl;
     once = refl;
+    funded = opened_funded;
+    budget = opened_budget;
     many = refl;
     fits = omega arith;
     small = small;

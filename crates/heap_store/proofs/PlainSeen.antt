@@ -18,8 +18,8 @@ use Rattle.heap_store.specs.declared.claims.HeldClaim.{HeldClaim}
 use Rattle.heap_store.specs.World.{World, recs, node_at, state_at, show, holds, some_record, some_below, is_claimed_at, is_taken}
 use Rattle.heap_store.specs.Growth.{Grows}
 use Rattle.heap_store.specs.Lawful.{IsLawful, HasLaws, has_origin, has_maker_at, is_maker, is_still}
-use Rattle.heap_store.specs.Hand.{Hand, IsLawfulHand, contains, all_distinct, claim_places, fresh_claim, mark_newest, is_later, without_claim, newest_makes, is_at_offset, has_no_next, is_claim_well}
-use Rattle.heap_store.specs.Plain.{IsSeenWell, is_marked_well}
+use Rattle.heap_store.specs.Hand.{is_marked_well, Hand, IsLawfulHand, contains, all_distinct, claim_places, fresh_claim, mark_newest, is_later, without_claim, newest_makes, is_at_offset, has_no_next, is_claim_well}
+use Rattle.heap_store.specs.Plain.{IsSeenWell}
 use Rattle.heap_store.proofs.GrowthLaws.{at_true}
 use Rattle.heap_store.proofs.ShowLaws.{one_value, node-same, node-other, show_adds, put_grows, recs-show, recs-show-all}
 use Rattle.heap_store.proofs.LawfulLaws.{some_to, some_from, within, lawful_names, lawful_put}
@@ -36,7 +36,7 @@ pub not_true : (b : Bool) → (b ≡ true → ⊥) → b ≡ false
 not_true true h = absurd (h refl)
 not_true false h = refl
 
-not_false : (b : Bool) → (b ≡ false → ⊥) → b ≡ true
+pub not_false : (b : Bool) → (b ≡ false → ⊥) → b ≡ true
 not_false true h = refl
 not_false false h = absurd (h refl)
 
@@ -130,7 +130,7 @@ module _ (w : World) (p : ℕ) (r : Rec) (inside : p < length w.nodes) (none : n
       pass true b e = refl
       pass false b e = e
 
-  claims-put : (cs : List HeldClaim) → list_all (is_claim_well w) cs ≡ true → ((c : HeldClaim) → contains (claim_places cs) c.place.0 ≡ true → c.passed ≡ false → (t : Rec) → recs w c.place.0 ≡ Some t → is_claimed_at w c.place.0 ≡ true → HasOffset (family_of c.place.0 t).0 (suc (family_of c.place.0 t).1) p r → ⊥) → list_all (is_claim_well (show w p r (Unforced 0))) cs ≡ true
+  pub claims-put : (cs : List HeldClaim) → list_all (is_claim_well w) cs ≡ true → ((c : HeldClaim) → contains (claim_places cs) c.place.0 ≡ true → c.passed ≡ false → (t : Rec) → recs w c.place.0 ≡ Some t → is_claimed_at w c.place.0 ≡ true → HasOffset (family_of c.place.0 t).0 (suc (family_of c.place.0 t).1) p r → ⊥) → list_all (is_claim_well (show w p r (Unforced 0))) cs ≡ true
   claims-put [] h apart = refl
   claims-put (c ∷ cs) h apart =
       let k = and_parts (is_claim_well w c) _ h in
@@ -138,7 +138,7 @@ module _ (w : World) (p : ℕ) (r : Rec) (inside : p < length w.nodes) (none : n
       and_from _ _ (claim-put c k.0 (λ e t f. apart c (or_left _ _ (eq-eqb c.place.0 c.place.0 refl)) e t f l.0)) (claims-put cs k.1 (λ d m. apart d (or_right (eqb c.place.0 d.place.0) _ m)))
 
   -- the first of a family is no next one
-  first_apart : (s : ℕ) (t : Rec) → (family_of p r).1 ≡ 0 → HasOffset (family_of s t).0 (suc (family_of s t).1) p r → ⊥
+  pub first_apart : (s : ℕ) (t : Rec) → (family_of p r).1 ≡ 0 → HasOffset (family_of s t).0 (suc (family_of s t).1) p r → ⊥
   first_apart s t e h = absurd (omega (arith, h.off_is, e))
 
   -- what the newest claim makes next is no other claim's next
@@ -152,7 +152,7 @@ module _ (w : World) (p : ℕ) (r : Rec) (inside : p < length w.nodes) (none : n
         let p4 = and_parts (is_pending t.0) _ p3.0 in
         (t.0, t.1, p4.0, same_family (family_of c.place.0 t.0) ((family_of p r).0, i) (eqb-true _ _ p4.1) (omega (arith, eqb-true _ _ p3.1)))
 
-    other_apart : (d : HeldClaim) (t : Rec) → recs w d.place.0 ≡ Some t → is_claimed_at w d.place.0 ≡ true → HasOffset (family_of d.place.0 t).0 (suc (family_of d.place.0 t).1) p r → d.place.0 ≡ c.place.0
+    pub other_apart : (d : HeldClaim) (t : Rec) → recs w d.place.0 ≡ Some t → is_claimed_at w d.place.0 ≡ true → HasOffset (family_of d.place.0 t).0 (suc (family_of d.place.0 t).1) p r → d.place.0 ≡ c.place.0
     other_apart d t e claimed h =
         let n = newest in
         let same : family_of d.place.0 t ≡ family_of c.place.0 n.0 = same_family (family_of d.place.0 t) ((family_of p r).0, i) (sym h.origin_is) (omega (arith, h.off_is, off)) ∙ sym n.3 in
@@ -162,11 +162,11 @@ distinct_head : (x : ℕ) (xs : List ℕ) (q : ℕ) → all_distinct (x ∷ xs) 
 distinct_head x xs q d m e = let k = and_parts (not (contains xs x)) _ d in let m' : contains xs x ≡ true = subst (λ z. contains xs z ≡ true) e m in let z : false ≡ true = sym (ap not m') ∙ k.0 in true≢false (sym z)
 
 -- the newest claim alone says what it makes next
-newest_alone : (w : World) (c : HeldClaim) (cs : List HeldClaim) (origin off : ℕ) (r : Rec) → newest_makes w (c ∷ cs) origin off r ≡ true → newest_makes w (c ∷ []) origin off r ≡ true
+pub newest_alone : (w : World) (c : HeldClaim) (cs : List HeldClaim) (origin off : ℕ) (r : Rec) → newest_makes w (c ∷ cs) origin off r ≡ true → newest_makes w (c ∷ []) origin off r ≡ true
 newest_alone w c cs origin off r h = h
 
 module _ (w : World) (p : ℕ) (r : Rec) (inside : p < length w.nodes) (none : node_at w p ≡ None) (law : IsLawful w) where
-  well-put : (cs : List HeldClaim) → list_all (is_claim_well w) cs ≡ true → all_distinct (claim_places cs) ≡ true → ((i : ℕ) → (family_of p r).1 ≡ suc i → newest_makes w cs (family_of p r).0 (suc i) r ≡ true) → (off : ℕ) → (family_of p r).1 ≡ off → list_all (is_claim_well (show w p r (Unforced 0))) (mark_newest (is_later p r) cs) ≡ true
+  pub well-put : (cs : List HeldClaim) → list_all (is_claim_well w) cs ≡ true → all_distinct (claim_places cs) ≡ true → ((i : ℕ) → (family_of p r).1 ≡ suc i → newest_makes w cs (family_of p r).0 (suc i) r ≡ true) → (off : ℕ) → (family_of p r).1 ≡ off → list_all (is_claim_well (show w p r (Unforced 0))) (mark_newest (is_later p r) cs) ≡ true
   well-put [] h d makes off e = refl
   well-put (c ∷ cs) h d makes zero e =
       let k = claims-put w p r inside none law (c ∷ cs) h (λ x m no t f cl. first_apart w p r inside none law x.place.0 t e) in
@@ -194,7 +194,6 @@ module _ (w : World) (p : ℕ) (r : Rec) (inside : p < length w.nodes) (none : n
         well = well-put h.claims seen.well hand.claims_once follows (family_of p r).1 refl;
         held = λ q. ap (λ l. contains l q) (places-mark (is_later p r) h.claims) ∙ (seen.held q ∙ sym (claimed-put w p r inside none law q));
         wide = seen.wide;
-        versions = seen.versions;
         unended = seen.unended;
       }
 
@@ -224,7 +223,7 @@ module _ (w : World) (p : ℕ) (r : Rec) (old s : SuspState) (inside : p < lengt
           let t = at_true (λ t. has_no_next w c.place.0 t) (recs w c.place.0) k in
           or_right c.passed _ (rw (recs-show w p r s inside old here c.place.0 ∙ t.1) (no_next-state c.place.0 t.0 ∙ t.2))
 
-  claims-state : (cs : List HeldClaim) → list_all (is_claim_well w) cs ≡ true → list_all (is_claim_well (show w p r s)) (without_claim p cs) ≡ true
+  pub claims-state : (cs : List HeldClaim) → list_all (is_claim_well w) cs ≡ true → list_all (is_claim_well (show w p r s)) (without_claim p cs) ≡ true
   claims-state [] h = refl
   claims-state (c ∷ cs) h =
       let k = and_parts (is_claim_well w c) _ h in
@@ -253,7 +252,6 @@ module _ (w : World) (p : ℕ) (r : Rec) (old s : SuspState) (inside : p < lengt
               (λ ne. ap (λ z. z || contains (claim_places claims) q) (not_true (eqb place.0 q) (λ e. ne (sym (eqb-true place.0 q e) ∙ same))) ∙ (seen.held q ∙ sym (claimed-other q ne)))
               (cases_eq q p);
           wide = seen.wide;
-          versions = seen.versions;
           unended = seen.unended;
         }
 
@@ -272,7 +270,6 @@ module _ (w : World) (p : ℕ) (r : Rec) (old s : SuspState) (inside : p < lengt
               (λ ne. contains-without_other p claims q ne ∙ (seen.held q ∙ sym (claimed-other q ne)))
               (cases_eq q p);
           wide = seen.wide;
-          versions = seen.versions;
           unended = seen.unended;
         }
 

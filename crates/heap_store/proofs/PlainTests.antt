@@ -1,36 +1,36 @@
--- What the tests of the plain heap put.
-use Rattle.std.proofs.Common.{◌≡◌, ℕ, zero, suc, ◌+◌, ◌<◌, ◌≤◌, true, false, not, ◌&&◌, List, [], ◌∷◌, ◌++◌, refl, sym, ap, ◌∙◌, subst, arith, eqb, ⊎_elim}
-use Rattle.std.specs.List.{list_any}
-use Rattle.std.proofs.lemmas.Bool.{eq-eqb, or_left, or_right, cases_eq}
-use Rattle.lazy_rec.specs.declared.places.Ref.{Ref}
-use Rattle.lazy_rec.specs.declared.records.Rec.{Rec}
-use Rattle.lazy_rec.specs.declared.records.Rec.TheVariants.{Leaf, Cons, LCons, BankRot}
-use Rattle.lazy_rec.specs.declared.states.SuspState.TheVariants.{Unforced}
-use Rattle.lazy_rec.specs.ByPlace.{by_place}
-use Rattle.lazy_rec.specs.Named.{is_pending}
-use Rattle.lazy_rec.specs.Meaning.{cells, means}
-use Rattle.lazy_rec.specs.Units.{family_of}
-use Rattle.heap_store.specs.declared.claims.HeldClaim.{HeldClaim}
+-- What the tests of the plain heap put and begin.
+use Rattle.std.proofs.Common.{◌≡◌, ℕ, zero, suc, ◌+◌, ◌<◌, ◌≤◌, true, not, ◌||◌, ◌&&◌, Bool, false, cond, Option, List, [], ◌∷◌, ◌++◌, Some, None, refl, sym, ap, ◌∙◌, subst, arith, eqb, ⊎_elim}
+use Rattle.std.specs.Prelude.{is_some, option_and_then}
+use Rattle.std.proofs.lemmas.Bool.{eq-eqb, or_left, or_right, cases_eq, true≢false}
+use Rattle.lazy_rec.specs.declared.records.Rec.TheVariants.{Leaf}
+use Rattle.lazy_rec.specs.declared.events.Event.{Event}
+use Rattle.lazy_rec.specs.declared.events.Op.TheVariants as ops
+use Rattle.lazy_rec.specs.declared.events.Kind.TheVariants as kinds
 use Rattle.heap_store.specs.Span.{Span}
-use Rattle.heap_store.specs.World.{World, recs, show, holds}
-use Rattle.heap_store.specs.Completion.{is_plain}
-use Rattle.heap_store.specs.Growth.{Grows}
-use Rattle.heap_store.specs.Lawful.{HasLaws, IsLawful, IsDoneWell, has_origin, height}
-use Rattle.heap_store.specs.Hand.{Hand, IsInHand, contains, places_from, claim_places, fresh_claim, mark_newest, is_later, without_claim, holds_claim, hand_put}
-use Rattle.heap_store.specs.View.{View, About, Quiet, Reserved, Fits, Put, IsWon, Completed, MayComplete, GivenUp, is_unbuilt}
-use Rattle.heap_store.specs.Opened.{opened_view}
-use Rattle.heap_store.proofs.GrowthLaws.{grows_refl, grows_trans}
-use Rattle.heap_store.proofs.Steps.{IsInHand-next}
-use Rattle.heap_store.proofs.RecordLaws.{done_well_up}
+use Rattle.lazy_rec.specs.declared.events.Reply.{Reply}
+use Rattle.lazy_rec.specs.Kinds.{is_trim, is_split}
+use Rattle.lazy_rec.specs.History.{is_second, event_name, reply_to, has_smaller_bases, is_of_its_kind}
+use Rattle.heap_store.specs.declared.versions.Version.{Version}
+use Rattle.heap_store.specs.World.{World, recs}
+use Rattle.heap_store.specs.Rows.{Row, not_ended, first_of, second_of, reply_of, version_of, version_at, events_of, row_at, store_word}
+use Rattle.heap_store.specs.Legal.{IsLegal, is_begun_well, row_in_range}
+use Rattle.heap_store.specs.LookedAt.{HasRoots, row_has_looked}
+use Rattle.heap_store.proofs.Steps.{stored_alone}
 use Rattle.heap_store.proofs.ShowLaws.{one_value}
-use Rattle.heap_store.proofs.LawfulLaws.{lawful_names, done_there}
+use Rattle.heap_store.specs.Hand.{Hand, IsInHand, contains, places_from}
+use Rattle.heap_store.specs.View.{View, About, Reserved, Fits}
+use Rattle.heap_store.specs.Budget.{direct_at}
+use Rattle.heap_store.specs.RowCalls.{NameDrawn, MayStore, Stored}
+use Rattle.heap_store.specs.Opened.{opened_view}
 
--- a leaf names nothing, and fits everywhere
+-- a leaf names and shows nothing, and fits everywhere
 pub leaf_fits : (v : View) (p : ℕ) → Fits v p (Leaf (record { 0 = 5 }))
 leaf_fits v p = record {
   laws = record { range = refl; names = refl; sizes = refl; unmixed = refl; bank_queue = refl; rt_queue = refl; heap = refl; cat = refl; finger = refl; heights = refl };
   origin = eq-eqb p p refl;
   follows = λ i e. cc;
+  paid = omega arith;
+  settled = refl;
 }
 
 contains-places : (first k p : ℕ) → first ≤ p → p < first + k → contains (places_from first k) p ≡ true
@@ -47,112 +47,95 @@ contains-behind (x ∷ xs) ys p h = or_right (eqb x p) _ (contains-behind xs ys 
 pub reserved_held : {old new : View} {k : ℕ} {run : Span} → Reserved old new k run → IsInHand new.hand run
 reserved_held {old} {new} {k} {run} r = subst (λ h. IsInHand h run) (sym r.hand) (record { each = λ p low high. contains-behind old.hand.reserved (places_from run.next k) p (contains-places run.next k p low (omega (arith, high, r.size))) })
 
--- a run whose next place is filled is still in the hand
-pub held_put : {v v' : View} {run run' : Span} (r : Rec) → IsInHand v.hand run → Put v v' run.next r → run' ≡ record run { next = run.next + 1 } → IsInHand v'.hand run'
-held_put {v} {v'} {run} {run'} r held put e = subst (λ h. IsInHand h run') (sym put.hand) (subst (λ s. IsInHand (hand_put v.hand run.next r) s) (sym e) (IsInHand-next v.hand run r held))
+-- ---- the first event begins
 
--- ---- a rotation of no cells over a rear of one item
+abbrev pub new_event : Event
+new_event = record { op = ops.New kinds.Bankq; base = 0; other = 0; arg = 0 }
 
-abbrev pub rear_rec : Rec
-rear_rec = LCons false 7 (record { 0 = 1 })
+abbrev pub begun_world : ℕ → World
+begun_world n = store_word (opened_view n 1).seen 1 0 8449
 
-abbrev pub rotation_rec : Rec
-rotation_rec = BankRot (record { 0 = 0 }) (record { 0 = 5 }) 0 (record { 0 = 6 }) 0
+abbrev pub new_row : Row
+new_row = record { caller = 0; event = new_event; begun = true; ending = not_ended }
 
-abbrev pub cell_rec : Rec
-cell_rec = Cons false 7 (record { 0 = 0 })
+-- what holds of the first row holds of each
+only_row : (n i : ℕ) (r : Row) → row_at (begun_world n) i ≡ Some r → (P : ℕ → Row → Type 0) → P 1 new_row → P i r
+only_row n zero r e P h = cc
+only_row n (suc zero) r e P h = subst (P 1) (one_value new_row r e) h
+only_row n (suc (suc i)) r e P h = cc
 
-abbrev pub world_0 : World
-world_0 = (opened_view 3 0).seen
+-- it isn't ended
+no_version : (n m : ℕ) (v : Version) → version_at (row_at (begun_world n)) m ≡ Some v → ⊥
+no_version n m v f = by (row_at (begun_world n) (event_name m)) refl f
+  where
+    none : (b : Bool) → cond {A = Option Version} b None None ≡ Some v → ⊥
+    none true g = cc
+    none false g = cc
 
-abbrev pub world_1 : World
-world_1 = show world_0 5 rear_rec (Unforced 0)
+    by : (o : Option Row) → row_at (begun_world n) (event_name m) ≡ o → option_and_then (λ (r : Row). version_of m r.ending) o ≡ Some v → ⊥
+    by None e g = cc
+    by (Some r) e g = only_row n (event_name m) r e (λ i r. version_of m r.ending ≡ Some v → ⊥) (none (is_second m)) g
 
-abbrev pub world_2 : World
-world_2 = show world_1 6 rotation_rec (Unforced 0)
-
-abbrev pub world_3 : World
-world_3 = show world_2 7 cell_rec (Unforced 0)
-
--- a view of a world with no claim
-pub record IsAt (v : View) (w : World) : Type 0 where
-  pub seen : v.seen ≡ w
-  pub claims : v.hand.claims ≡ []
-  pub alone : v.about.alone ≡ true
-
-fits_at : (v : View) (w : World) (p n : ℕ) (r : Rec) → IsAt v w → p ≡ n → HasLaws (show w n r (Unforced 0)) n r → has_origin n r ≡ true → ((i : ℕ) → (family_of n r).1 ≡ suc i → ⊥) → Fits v p r
-fits_at v w p n r at e laws origin first = record {
-  laws = subst (λ z. HasLaws (show z p r (Unforced 0)) p r) (sym at.seen) (subst (λ q. HasLaws (show w q r (Unforced 0)) q r) (sym e) laws);
-  origin = subst (λ q. has_origin q r ≡ true) (sym e) origin;
-  follows = λ i f. absurd (first i (subst (λ q. (family_of q r).1 ≡ suc i) e f));
-}
-
-pub rear_fits : (v : View) (p : ℕ) → IsAt v world_0 → p ≡ 5 → Fits v p rear_rec
-rear_fits v p at e = fits_at v world_0 p 5 rear_rec at e (record { range = refl; names = refl; sizes = refl; unmixed = refl; bank_queue = refl; rt_queue = refl; heap = refl; cat = refl; finger = refl; heights = refl }) refl (λ i f. cc)
-
-pub rotation_fits : (v : View) (p : ℕ) → IsAt v world_1 → p ≡ 6 → Fits v p rotation_rec
-unfolding by_place cells is_plain height
-rotation_fits v p at e = fits_at v world_1 p 6 rotation_rec at e (record { range = refl; names = refl; sizes = refl; unmixed = refl; bank_queue = refl; rt_queue = refl; heap = refl; cat = refl; finger = refl; heights = refl }) refl (λ i f. cc)
-
-pub cell_fits : (v : View) (p : ℕ) → IsAt v world_2 → p ≡ 7 → Fits v p cell_rec
-cell_fits v p at e = fits_at v world_2 p 7 cell_rec at e (record { range = refl; names = refl; sizes = refl; unmixed = refl; bank_queue = refl; rt_queue = refl; heap = refl; cat = refl; finger = refl; heights = refl }) refl (λ i f. cc)
-
-pub at_reserved : {v0 v1 : View} {run : Span} → v0 ≡ opened_view 3 0 → Reserved v0 v1 3 run → IsAt v1 world_0
-at_reserved {v0} {v1} e r =
-    let alone : v0.about.alone ≡ true = ap (λ (v : View). v.about.alone) e in
+begun_legal : (n : ℕ) → IsLegal (begun_world n)
+begun_legal n =
+    let rs = recs (begun_world n) in
+    let rows = row_at (begun_world n) in
     record {
-      seen = (r.alone alone).0 ∙ ap (λ (v : View). v.seen) e;
-      claims = ap (λ (h : Hand). h.claims) r.hand ∙ ap (λ (v : View). v.hand.claims) e;
-      alone = ap (λ (a : About). a.alone) r.about ∙ alone;
+      ranges = λ i r e. only_row n i r e (λ i r. row_in_range r ≡ true) refl;
+      trim = λ i r e. only_row n i r e (λ i r. is_trim r.event ≡ true) refl;
+      bases = λ i r e. only_row n i r e (λ i r. has_smaller_bases i r.event ≡ true) refl;
+      begun = λ i r e. only_row n i r e (λ i r. is_begun_well rows r ≡ true) refl;
+      kinds = λ i r e. only_row n i r e (λ i r. not r.begun || is_of_its_kind (events_of rows) r.event ≡ true) refl;
+      seconds = λ i r e. only_row n i r e (λ i r. is_some (second_of r.ending) ≡ is_some (first_of r.ending) && is_split r.event.op) refl;
+      versions = λ m v f. absurd (no_version n m v f);
+      replies = λ i r e. only_row n i r e (λ i r. (told : Reply) → reply_of r.ending ≡ Some told → told ≡ reply_to (events_of rows) r.event) (λ told f. cc);
+      meanings = λ m v f. absurd (no_version n m v f);
     }
 
-pub at_put : {v v' : View} (w : World) (p n : ℕ) (r : Rec) → IsAt v w → p ≡ n → Put v v' p r → IsAt v' (show w n r (Unforced 0))
-at_put {v} {v'} w p n r at e put = record {
-  seen = (put.alone at.alone).0 ∙ (ap (λ z. show z p r (Unforced 0)) at.seen ∙ ap (λ q. show w q r (Unforced 0)) e);
-  claims = ap (λ (h : Hand). h.claims) put.hand ∙ ap (mark_newest (is_later p r)) at.claims;
-  alone = ap (λ (a : About). a.alone) put.about ∙ at.alone;
-}
+begun_roots : (n : ℕ) → HasRoots (begun_world n)
+begun_roots n =
+    let w = begun_world n in
+    record {
+      roots = λ m v f. absurd (no_version n m v f);
+      looked = λ i r e. only_row n i r e (λ i r. (told : Reply) → reply_of r.ending ≡ Some told → row_has_looked w (row_at w) r.event told (version_at (row_at w) r.event.base) ≡ true) (λ told f. cc);
+    }
 
--- a view of a world that has grown from the last one, with these claims
-pub record IsOn (v : View) (claims : List HeldClaim) : Type 0 where
-  pub grows : Grows world_3 v.seen
-  pub claims_are : v.hand.claims ≡ claims
+-- the first name of an opened store
+module _ (n : ℕ) (v0 v1 : View) (name : ℕ) (e : v0 ≡ opened_view n 1) (d : NameDrawn v0 v1 name) where
+  alone : v0.about.alone ≡ true
+  alone = ap (λ (v : View). v.about.alone) e
 
-pub on_at : {v : View} → IsAt v world_3 → IsOn v []
-on_at {v} at = record { grows = subst (λ w. Grows world_3 w) (sym at.seen) (grows_refl world_3); claims_are = at.claims }
+  seen : v1.seen ≡ (opened_view n 1).seen
+  seen = (d.alone alone).0 ∙ ap (λ (v : View). v.seen) e
 
-pub on_quiet : {v v' : View} (claims : List HeldClaim) → IsOn v claims → Quiet v v' → IsOn v' claims
-on_quiet claims on q = record { grows = grows_trans on.grows q.grows; claims_are = ap (λ (h : Hand). h.claims) q.hand ∙ on.claims_are }
+  one : name ≡ 1
+  one = (d.alone alone).2 ∙ ap (λ (v : View). v.named + 1) e
 
-pub on_won : {v v' : View} (s : Ref) → IsOn v [] → IsWon v v' s → IsOn v' (fresh_claim s ∷ [])
-on_won s on won = record { grows = grows_trans on.grows won.grows; claims_are = ap (λ (h : Hand). h.claims) won.hand ∙ ap (λ cs. fresh_claim s ∷ cs) on.claims_are }
+  about : v1.about ≡ (opened_view n 1).about
+  about = d.about ∙ ap (λ (v : View). v.about) e
 
-released_one : (s : Ref) → without_claim s.0 (fresh_claim s ∷ []) ≡ []
-released_one s = rw (eq-eqb s.0 s.0 refl) refl
+  stored_as : (P : World → Type 0) → P (begun_world n) → P (store_word v1.seen name 0 8449)
+  stored_as P h = subst (λ w. P (store_word w name 0 8449)) (sym seen) (subst (λ k. P (store_word (opened_view n 1).seen k 0 8449)) (sym one) h)
 
-pub on_given_up : {v v' : View} (s : Ref) → IsOn v (fresh_claim s ∷ []) → GivenUp v v' s.0 → IsOn v' []
-on_given_up s on g = record { grows = grows_trans on.grows g.grows; claims_are = ap (λ (h : Hand). h.claims) g.hand ∙ (ap (without_claim s.0) on.claims_are ∙ released_one s) }
+  no_plan : (events : List Event) → v1.about.plan ≡ Some events → ⊥
+  no_plan events f = let z : None ≡ Some events = sym (ap (λ (t : About). t.plan) about) ∙ f in cc
 
-pub on_completed : {v v' : View} (s : Ref) (place steps : ℕ) → IsOn v (fresh_claim s ∷ []) → Completed v v' s.0 place steps → IsOn v' []
-on_completed s place steps on c = record { grows = grows_trans on.grows c.grows; claims_are = ap (λ (h : Hand). h.claims) c.hand ∙ (ap (without_claim s.0) on.claims_are ∙ released_one s) }
+  pub may_begin : MayStore v1 name 0 8449
+  may_begin = record {
+    drawn = ap (λ (h : Hand). contains h.names name) d.hand ∙ contains-behind v0.hand.names (name ∷ []) name (or_left _ _ (eq-eqb name name refl));
+    word = omega arith;
+    fits = refl;
+    once = λ l. d.empty 0;
+    caller = λ c f. (let z : None ≡ Some c = sym (ap (λ (t : About). t.caller) about) ∙ f in cc);
+    ended = λ b. absurd (true≢false (sym b));
+    end = λ b. absurd (true≢false (sym b));
+    legal = stored_as IsLegal (begun_legal n);
+    roots = stored_as HasRoots (begun_roots n);
+    plan = λ events f. absurd (no_plan events f);
+    plan_words = λ events f. absurd (no_plan events f);
+  }
 
-pub pending_on : {v : View} (claims : List HeldClaim) (p : ℕ) → IsOn v claims → p ≡ 6 → holds (recs v.seen) p is_pending ≡ true
-pending_on {v} claims p on e = subst (λ q. holds (recs v.seen) q is_pending ≡ true) (sym e) (rw (on.grows.records 6 rotation_rec refl) refl)
-
-pub unbuilt_on : {v : View} (s : Ref) → IsOn v (fresh_claim s ∷ []) → is_unbuilt v.hand s.0 ≡ true
-unbuilt_on {v} s on = subst (λ cs. list_any (λ (c : HeldClaim). eqb c.place.0 s.0 && not c.built) cs ≡ true) (sym on.claims_are) (rw (eq-eqb s.0 s.0 refl) refl)
-
-pub held_on : {v : View} (s : Ref) → IsOn v (fresh_claim s ∷ []) → holds_claim v.hand s.0 ≡ true
-held_on {v} s on = subst (λ cs. contains (claim_places cs) s.0 ≡ true) (sym on.claims_are) (or_left _ _ (eq-eqb s.0 s.0 refl))
-
-rotation_done : IsDoneWell world_3 6 rotation_rec (7, 1)
-unfolding by_place cells means is_plain height
-rotation_done = record { pending = refl; value = refl; needs = refl; made = refl; steps = refl; height = refl; trees = refl; keys = refl; means = refl; cells = refl }
-
-pub done_on : {v : View} (s place : ℕ) (claims : List HeldClaim) → IsOn v claims → s ≡ 6 → place ≡ 7 → IsLawful world_3 → MayComplete v.seen s place 1
-done_on {v} s place claims on e f law = subst (λ q. MayComplete v.seen q place 1) (sym e) (subst (λ q. MayComplete v.seen 6 q 1) (sym f) at_six)
-  where
-    at_six : MayComplete v.seen 6 7 1
-    at_six r g =
-        let same : rotation_rec ≡ r = one_value rotation_rec r (sym (on.grows.records 6 rotation_rec refl) ∙ g) in
-        subst (λ t. IsDoneWell v.seen 6 t (7, 1)) same (done_well_up world_3 v.seen (lawful_names law) on.grows (done_there law) 6 rotation_rec (7, 1) refl rotation_done)
+  pub one_place : (v2 : View) → Stored v1 v2 name 0 8449 → 1 ≤ v2.hand.allowance
+  one_place v2 s =
+      let two : direct_at (store_word v1.seen name 0 8449) name ≡ 1 = subst (λ k. direct_at (store_word v1.seen name 0 8449) k ≡ 1) (sym one) (stored_as (λ w. direct_at w 1 ≡ 1) refl) in
+      omega (arith, two, ap (λ (h : Hand). h.allowance) (stored_alone s (ap (λ (t : About). t.alone) about) (ap (λ (t : About). t.caller) about)))

@@ -16,15 +16,15 @@ use Rattle.lazy_rec.specs.declared.events.Kind.{Kind}
 use Rattle.lazy_rec.specs.declared.events.Kind.TheVariants as kinds
 use Rattle.lazy_rec.specs.declared.records.Sort.{Sort}
 use Rattle.lazy_rec.specs.declared.records.Sort.TheVariants as sorts
-use Rattle.lazy_rec.specs.Meaning.{Entry, an_item, a_child, cells, means}
+use Rattle.lazy_rec.specs.Meaning.{Entry, an_item, a_child, cells, means, means_of}
 use Rattle.heap_store.specs.Forest.{is_tree_list}
 use Rattle.heap_store.specs.World.{World, recs, holds, value_at, Keeps}
-use Rattle.heap_store.specs.Completion.{on_queue}
-use Rattle.heap_store.specs.Lawful.{has_sizes, stream_of, is_stream, bank_front_of, is_bank_front, rt_front_of, is_rt_front, is_child, has_children, is_unmixed, is_rotated, is_bank_queue, is_bank_origin, same_entries, walk, rest_of, is_rt_queue, insert_steps_of, insert_steps, is_heap_list, is_heap, is_queue_of_children, is_cat, if_any, level_from, level, level_of, is_of_level, is_finger, has_keys_at, has_keys, keeps_keys, IsDoneWell, cell_places, first_children, link_needs, kids_of, needs, height, height_of, greatest, has_low_names, may_wait}
+use Rattle.heap_store.specs.Completion.{on_rt_queue}
+use Rattle.heap_store.specs.Lawful.{has_sizes, size_in, is_size, is_rooted, stream_of, is_stream, bank_front_of, is_bank_front, rt_front_of, is_rt_front, is_child, has_children, is_unmixed, is_rotated, is_bank_queue, is_bank_origin, same_entries, walk, rest_of, is_rt_queue, insert_steps_of, insert_steps, is_heap_list, is_heap, is_queue_of_children, is_cat, if_any, level_from, level, level_of, is_of_level, is_finger, has_keys_at, has_keys, keeps_keys, IsDoneWell, cell_places, first_children, link_needs, kids_of, needs, height, height_of, greatest, has_low_names, may_wait}
 use Rattle.lazy_rec.specs.Units.{family_of}
-use Rattle.heap_store.proofs.ByPlaceLaws.{by_place_agree}
+use Rattle.lazy_rec.proofs.ByPlaceLaws.{by_place_agree}
 use Rattle.heap_store.proofs.Alls.{All-map}
-use Rattle.heap_store.proofs.MeaningLaws.{by_record_kept, cells_kept, means_kept, children_lower, IsLowerChild}
+use Rattle.heap_store.proofs.MeaningLaws.{by_record_kept, cells_kept, means_kept, joined_same, children_lower, IsLowerChild}
 use Rattle.lazy_rec.specs.Named.{is_pending}
 use Rattle.heap_store.proofs.MadeLaws.{value_place}
 use Rattle.heap_store.proofs.GrowthLaws.{is_value_up, Up, and_up, or_up, same_up, at_up, at_true, holds_up, value_up}
@@ -41,7 +41,7 @@ stream_look (Append xs ys _ _ _) g h s = rw (s.0, s.1.0) refl
 stream_look (Reverse xs _) g h s = s.0
 stream_look _ g h s = refl
 
-bank_look : LooksAtNamed bank_front_of
+pub bank_look : LooksAtNamed bank_front_of
 bank_look (Cons _ _ rest) g h s = s.0
 bank_look (BankRot xs _ _ _ _) g h s = s.0
 bank_look _ g h s = refl
@@ -51,15 +51,15 @@ rt_look (Cons _ _ rest) g h s = s.0
 rt_look (RtRot xs _ acc _ _ _) g h s = rw (s.0, s.1.1.0) refl
 rt_look _ g h s = refl
 
-insert_look : LooksAtNamed insert_steps_of
+pub insert_look : LooksAtNamed insert_steps_of
 insert_look (HeapInsert i list z) g h s = rw s.0 refl
 insert_look _ g h s = refl
 
-any_same : (g h : ℕ → ℕ) (s : Sort) (n e : ℕ) (es : List ℕ) → AllByRecursion (λ (q : NamedPlace). g q.0 ≡ h q.0) (take n (map (λ p. (p, s)) (e ∷ es))) → if_any n (g e) ≡ if_any n (h e)
+pub any_same : (g h : ℕ → ℕ) (s : Sort) (n e : ℕ) (es : List ℕ) → AllByRecursion (λ (q : NamedPlace). g q.0 ≡ h q.0) (take n (map (λ p. (p, s)) (e ∷ es))) → if_any n (g e) ≡ if_any n (h e)
 any_same g h s zero e es k = refl
 any_same g h s (suc n) e es k = k.0
 
-level_look : LooksAtNamed level_from
+pub level_look : LooksAtNamed level_from
 level_look (Node count e1 e2 e3 _ _) g h s = rw (any_same g h sorts.Element count e1.0 (e2.0 ∷ e3.0 ∷ []) s) refl
 level_look (Digit count e1 e2 e3 e4 _ _) g h s = any_same g h sorts.Element count e1.0 (e2.0 ∷ e3.0 ∷ e4.0 ∷ []) s
 level_look (Single elem _ _) g h s = s.0
@@ -71,12 +71,12 @@ level_look (DeepR _ digit _ _ _ _) g h s = s.1.0
 level_look (Concat _ _ list _ _ _ _) g h s = s.1.1.0
 level_look _ g h s = refl
 
-all_same : (g h : ℕ → ℕ → Bool) (s : Sort) (d n : ℕ) (ps : List ℕ) → AllByRecursion (λ (q : NamedPlace). g q.0 ≡ h q.0) (take n (map (λ p. (p, s)) ps)) → list_all (λ p. g p d) (take n ps) ≡ list_all (λ p. h p d) (take n ps)
+pub all_same : (g h : ℕ → ℕ → Bool) (s : Sort) (d n : ℕ) (ps : List ℕ) → AllByRecursion (λ (q : NamedPlace). g q.0 ≡ h q.0) (take n (map (λ p. (p, s)) ps)) → list_all (λ p. g p d) (take n ps) ≡ list_all (λ p. h p d) (take n ps)
 all_same g h s d zero ps k = refl
 all_same g h s d (suc n) [] k = refl
 all_same g h s d (suc n) (p ∷ ps) k = rw (k.0, all_same g h s d n ps k.1) refl
 
-level_at : (d : ℕ) (r : Rec) (g h : ℕ → ℕ → Bool) → AllByRecursion (λ (q : NamedPlace). g q.0 ≡ h q.0) (named r) → level_of g r d ≡ level_of h r d
+pub level_at : (d : ℕ) (r : Rec) (g h : ℕ → ℕ → Bool) → AllByRecursion (λ (q : NamedPlace). g q.0 ≡ h q.0) (named r) → level_of g r d ≡ level_of h r d
 level_at d (Leaf _) g h s = refl
 level_at zero (Node count e1 e2 e3 _ _) g h s = refl
 level_at (suc d) (Node count e1 e2 e3 _ _) g h s = all_same g h sorts.Element d count (e1.0 ∷ e2.0 ∷ e3.0 ∷ []) s
@@ -96,7 +96,7 @@ module _ (a b : Records) (names : NamesWell a) (keeps : Keeps a b) where
   unfolding is_stream
   is_stream_kept = by_record_kept false stream_of stream_look a b names keeps
 
-  bank_front_kept : (p : ℕ) → IsPublished a p → is_bank_front a p ≡ is_bank_front b p
+  pub bank_front_kept : (p : ℕ) → IsPublished a p → is_bank_front a p ≡ is_bank_front b p
   unfolding is_bank_front
   bank_front_kept = by_record_kept false bank_front_of bank_look a b names keeps
 
@@ -149,12 +149,12 @@ module _ (a b : Records) (names : NamesWell a) (keeps : Keeps a b) where
       by : (p : ℕ) (g h : ℕ → ℕ) (r : Rec) → AllByRecursion (λ q. g q.0 ≡ h q.0) (named r) → height_of g p r ≡ height_of h p r
       by p g h r s = ap (λ ns. cond (may_wait r) (family_of p r).0 (greatest ns)) (all g h (named r) s)
 
-  low_names_all : (low : ℕ) (qs : List NamedPlace) → AllByRecursion (λ (q : NamedPlace). IsPublished a q.0) qs → list_all (λ (q : NamedPlace). ltb (height a q.0) low) qs ≡ list_all (λ (q : NamedPlace). ltb (height b q.0) low) qs
+  pub low_names_all : (low : ℕ) (qs : List NamedPlace) → AllByRecursion (λ (q : NamedPlace). IsPublished a q.0) qs → list_all (λ (q : NamedPlace). ltb (height a q.0) low) qs ≡ list_all (λ (q : NamedPlace). ltb (height b q.0) low) qs
   low_names_all low [] s = refl
   low_names_all low (q ∷ qs) s = rw (height_kept q.0 s.0, low_names_all low qs s.1) refl
 
-  pub low_names_up : (p : ℕ) (r : Rec) → a p ≡ Some r → Up (has_low_names a p r) (has_low_names b p r)
-  low_names_up p r e h = rw (← low_names_all (family_of p r).0 (named r) (All-map (IsNamedWell a p) _ (λ q w. (w.1, w.2)) (named r) (names p r e))) h
+  pub low_names_up : (p : ℕ) (r : Rec) → AllByRecursion (IsNamedWell a p) (named r) → Up (has_low_names a p r) (has_low_names b p r)
+  low_names_up p r e h = rw (← low_names_all (family_of p r).0 (named r) (All-map (IsNamedWell a p) _ (λ q w. (w.1, w.2)) (named r) e)) h
 
   -- what is the same in both worlds at each place that a record names
   pub record Same (p : ℕ) : Type 0 where
@@ -165,38 +165,46 @@ module _ (a b : Records) (names : NamesWell a) (keeps : Keeps a b) where
   same_at : (p : ℕ) → IsPublished a p → Same p
   same_at p is = record { there = is; cells = cells_kept a b names keeps p is; means = means_kept a b names keeps p is }
 
-  same_named : (p : ℕ) (r : Rec) → a p ≡ Some r → AllByRecursion (λ (q : NamedPlace). Same q.0) (named r)
-  same_named p r e = All-map (IsNamedWell a p) (λ (q : NamedPlace). Same q.0) (λ q w. same_at q.0 (w.1, w.2)) (named r) (names p r e)
+  same_named : (p : ℕ) (r : Rec) → AllByRecursion (IsNamedWell a p) (named r) → AllByRecursion (λ (q : NamedPlace). Same q.0) (named r)
+  same_named p r e = All-map (IsNamedWell a p) (λ (q : NamedPlace). Same q.0) (λ q w. same_at q.0 (w.1, w.2)) (named r) e
 
-  queue_up : (p : ℕ) (f : ℕ → ℕ → ℕ → ℕ → ℕ → Bool) → Up (holds a p (on_queue f)) (holds b p (on_queue f))
+  queue_up : (p : ℕ) (f : ℕ → ℕ → ℕ → ℕ → ℕ → Bool) → Up (holds a p (on_rt_queue f)) (holds b p (on_rt_queue f))
   queue_up p f = at_up _ _ (a p) (b p) (keeps p) (λ r. same_up)
 
-  sizes_by : (p : ℕ) (r : Rec) → Same p → AllByRecursion (λ (q : NamedPlace). Same q.0) (named r) → Up (has_sizes a p r) (has_sizes b p r)
-  sizes_by p (StreamTop _ _) m s = λ h. rw (← s.0.cells) h
-  sizes_by p (BankTop _ _ _ _ _ _ _ _) m s = λ h. rw (← s.0.cells, ← s.1.0.cells) h
-  sizes_by p (RtTop _ _ _ _ _) m s = λ h. rw (← s.0.cells, ← s.1.0.cells) h
-  sizes_by p (HeapTop _ _ _) m s = λ h. rw (← s.0.means) h
-  sizes_by p (CatNode _ _ _) m s = λ h. rw (← s.0.means) h
-  sizes_by p (Node _ _ _ _ _ _) m s = λ h. rw (← m.means) h
-  sizes_by p (Digit _ _ _ _ _ _ _) m s = λ h. rw (← m.means) h
-  sizes_by p (Single _ _ _) m s = λ h. rw (← m.means) h
-  sizes_by p (Deep _ _ _ _ _) m s = λ h. rw (← m.means) h
-  sizes_by p (Append _ _ _ _ _) m s = λ h. rw (← s.0.cells) h
-  sizes_by p (Reverse _ _) m s = λ h. rw (← s.0.cells) h
-  sizes_by p (BankRot _ _ _ _ _) m s = λ h. rw (← s.0.cells) h
-  sizes_by p (RtRot _ _ _ _ _ _) m s = λ h. rw (← s.0.cells) h
-  sizes_by p (HeapInsert _ _ _) m s = λ h. rw (← s.0.means) h
-  sizes_by p (HeapMerge _ _ _ _) m s = λ h. rw (← s.0.means, ← s.1.0.means) h
-  sizes_by p (LinkAll queue len size _ _) m s = λ h. and_up {x = eqb size (length (means b queue.0)) && ltb 0 len} same_up (queue_up queue.0 _) (rw s.0.means at h)
-  sizes_by p (PushL _ _ _ _ _ _ _ _) m s = λ h. rw (← m.means) h
-  sizes_by p (PushR _ _ _ _ _ _ _ _) m s = λ h. rw (← m.means) h
-  sizes_by p (DeepL _ _ _ _ _ _) m s = λ h. rw (← m.means) h
-  sizes_by p (DeepR _ _ _ _ _ _) m s = λ h. rw (← m.means) h
-  sizes_by p (Concat _ _ _ _ _ _ _) m s = λ h. rw (← m.means) h
-  sizes_by p _ m s = same_up
+  means_named : (ns : List NamedPlace) → AllByRecursion (λ (q : NamedPlace). Same q.0) ns → AllByRecursion (λ (q : NamedPlace). means a q.0 ≡ means b q.0) ns
+  means_named [] s = tt
+  means_named (n ∷ ns) s = (s.0.means, means_named ns s.1)
 
-  pub sizes_up : (p : ℕ) (r : Rec) → a p ≡ Some r → Up (has_sizes a p r) (has_sizes b p r)
-  sizes_up p r e = sizes_by p r (same_at p (r, e)) (same_named p r e)
+  -- what a record with a cached size means hangs on what it names alone
+  size_means : (p : ℕ) (r : Rec) → AllByRecursion (λ (q : NamedPlace). Same q.0) (named r) → Up (is_size (means_of a (means a) p r) (size_in r)) (is_size (means_of b (means b) p r) (size_in r))
+  size_means p (Node count e1 e2 e3 _ _) s h = rw (← joined_same (means a) (means b) sorts.Element count (e1.0 ∷ e2.0 ∷ e3.0 ∷ []) (means_named _ s)) h
+  size_means p (Digit count e1 e2 e3 e4 _ _) s h = rw (← joined_same (means a) (means b) sorts.Element count (e1.0 ∷ e2.0 ∷ e3.0 ∷ e4.0 ∷ []) (means_named _ s)) h
+  size_means p (Single _ _ _) s h = rw (← s.0.means) h
+  size_means p (Deep _ _ _ _ _) s h = rw (← s.0.means, ← s.1.0.means, ← s.1.1.0.means) h
+  size_means p (PushL _ count e1 e2 _ _ _ _) s h = rw (← s.0.means, ← joined_same (means a) (means b) sorts.Element count (e1.0 ∷ e2.0 ∷ []) (means_named _ s.1)) h
+  size_means p (PushR _ count e1 e2 _ _ _ _) s h = rw (← s.0.means, ← joined_same (means a) (means b) sorts.Element count (e1.0 ∷ e2.0 ∷ []) (means_named _ s.1)) h
+  size_means p (DeepL _ _ _ _ _ _) s h = rw (← s.0.means, ← s.1.0.means) h
+  size_means p (DeepR _ _ _ _ _ _) s h = rw (← s.0.means, ← s.1.0.means) h
+  size_means p (Concat _ _ _ _ _ _ _) s h = rw (← s.0.means, ← s.1.0.means, ← s.1.1.0.means) h
+  size_means p _ s h = refl
+
+  sizes_by : (p : ℕ) (r : Rec) → AllByRecursion (λ (q : NamedPlace). Same q.0) (named r) → Up (has_sizes a p r) (has_sizes b p r)
+  sizes_by p (StreamTop _ _) s = λ h. rw (← s.0.cells) h
+  sizes_by p (BankTop _ _ _ _ _ _ _ _) s = λ h. rw (← s.0.cells, ← s.1.0.cells) h
+  sizes_by p (RtTop _ _ _ _ _) s = λ h. rw (← s.0.cells, ← s.1.0.cells) h
+  sizes_by p (HeapTop _ _ _) s = λ h. rw (← s.0.means) h
+  sizes_by p (CatNode _ _ _) s = λ h. rw (← s.0.means) h
+  sizes_by p (Append _ _ _ _ _) s = λ h. rw (← s.0.cells) h
+  sizes_by p (Reverse _ _) s = λ h. rw (← s.0.cells) h
+  sizes_by p (BankRot _ _ _ _ _) s = λ h. rw (← s.0.cells) h
+  sizes_by p (RtRot _ _ _ _ _ _) s = λ h. rw (← s.0.cells) h
+  sizes_by p (HeapInsert _ _ _) s = λ h. rw (← s.0.means) h
+  sizes_by p (HeapMerge _ _ _ _) s = λ h. rw (← s.0.means, ← s.1.0.means) h
+  sizes_by p (LinkAll queue len size _ _) s = λ h. and_up {x = eqb size (length (means b queue.0)) && ltb 0 len} same_up (queue_up queue.0 _) (rw s.0.means at h)
+  sizes_by p r s = size_means p r s
+
+  pub sizes_up : (p : ℕ) (r : Rec) → AllByRecursion (IsNamedWell a p) (named r) → Up (has_sizes a p r) (has_sizes b p r)
+  sizes_up p r e = sizes_by p r (same_named p r e)
 
   unmixed_by : (p : ℕ) (r : Rec) → AllByRecursion (λ (q : NamedPlace). Same q.0) (named r) → is_unmixed a p r ≡ is_unmixed b p r
   unmixed_by p (StreamTop front _) s = rw (is_stream_kept front.0 s.0.there, s.0.cells) refl
@@ -208,7 +216,7 @@ module _ (a b : Records) (names : NamesWell a) (keeps : Keeps a b) where
   unmixed_by p (RtRot xs _ _ _ _ _) s = rt_front_kept xs.0 s.0.there
   unmixed_by p _ s = refl
 
-  pub unmixed_up : (p : ℕ) (r : Rec) → a p ≡ Some r → Up (is_unmixed a p r) (is_unmixed b p r)
+  pub unmixed_up : (p : ℕ) (r : Rec) → AllByRecursion (IsNamedWell a p) (named r) → Up (is_unmixed a p r) (is_unmixed b p r)
   unmixed_up p r e h = sym (unmixed_by p r (same_named p r e)) ∙ h
 
   heap_list_up : (p : ℕ) → IsPublished a p → Up (is_heap_list a p) (is_heap_list b p)
@@ -221,33 +229,30 @@ module _ (a b : Records) (names : NamesWell a) (keeps : Keeps a b) where
   heaps_by p (Tree rank item kids) s = λ h. rw (← trees_only_kept a b names keeps kids.0 s.0.there, ← forest_kept a b names keeps kids.0 s.0.there, ← s.0.means) h
   heaps_by p _ s = same_up
 
-  pub heaps_up : (p : ℕ) (r : Rec) → a p ≡ Some r → Up (is_heap a p r) (is_heap b p r)
+  pub heaps_up : (p : ℕ) (r : Rec) → AllByRecursion (IsNamedWell a p) (named r) → Up (is_heap a p r) (is_heap b p r)
   heaps_up p r e = heaps_by p r (same_named p r e)
 
-  own_level_kept : (p : ℕ) → IsPublished a p → level a p ≡ level b p
+  pub own_level_kept : (p : ℕ) → IsPublished a p → level a p ≡ level b p
   unfolding level
   own_level_kept = by_record_kept 0 level_from level_look a b names keeps
 
-  finger_same : (p : ℕ) (r : Rec) → Same p → is_finger a p r ≡ is_finger b p r
-  finger_same p (Node count _ _ _ _ _) m = rw (own_level_kept p m.there, level_kept p m.there) refl
-  finger_same p (Digit count _ _ _ _ _ _) m = rw (own_level_kept p m.there, level_kept p m.there) refl
-  finger_same p (Single _ _ _) m = rw (own_level_kept p m.there, level_kept p m.there) refl
-  finger_same p (Deep _ _ _ _ _) m = rw (own_level_kept p m.there, level_kept p m.there) refl
-  finger_same p (PushL _ count _ _ _ _ _ _) m = rw (own_level_kept p m.there, level_kept p m.there) refl
-  finger_same p (PushR _ count _ _ _ _ _ _) m = rw (own_level_kept p m.there, level_kept p m.there) refl
-  finger_same p (DeepL _ _ _ _ _ _) m = rw (own_level_kept p m.there, level_kept p m.there) refl
-  finger_same p (DeepR _ _ _ _ _ _) m = rw (own_level_kept p m.there, level_kept p m.there) refl
-  finger_same p (Concat _ _ _ _ _ _ _) m = rw (own_level_kept p m.there, level_kept p m.there) refl
-  finger_same p _ m = refl
+  level_same : (p : ℕ) (r : Rec) → AllByRecursion (IsNamedWell a p) (named r) → (d : ℕ) → level_of (is_of_level a) r d ≡ level_of (is_of_level b) r d
+  level_same p r e d = level_at d r (is_of_level a) (is_of_level b) (All-map (IsNamedWell a p) _ (λ q w. level_kept q.0 (w.1, w.2)) (named r) e)
 
-  pub fingers_up : (p : ℕ) (r : Rec) → a p ≡ Some r → Up (is_finger a p r) (is_finger b p r)
-  fingers_up p r e h = sym (finger_same p r (same_at p (r, e))) ∙ h
+  own_level_same : (p : ℕ) (r : Rec) → AllByRecursion (IsNamedWell a p) (named r) → level_from (level a) r ≡ level_from (level b) r
+  own_level_same p r e = level_look r (level a) (level b) (All-map (IsNamedWell a p) _ (λ q w. own_level_kept q.0 (w.1, w.2)) (named r) e)
+
+  rooted_up : (p : ℕ) (r : Rec) → AllByRecursion (IsNamedWell a p) (named r) → Up (is_rooted a p r) (is_rooted b p r)
+  rooted_up p r e = let f = family_of p r in cond_up (eqb f.1 0) same_up (and_up {x = leb f.1 (level_from (level a) r)} (λ h. rw (← own_level_same p r e) h) (at_up _ _ (a f.0) (b f.0) (keeps f.0) (λ o. same_up)))
+
+  pub fingers_up : (p : ℕ) (r : Rec) → AllByRecursion (IsNamedWell a p) (named r) → Up (is_finger a p r) (is_finger b p r)
+  fingers_up p r e = or_up {x = not (is_some (size_in r))} same_up (and_up {x = level_of (is_of_level a) r (level_from (level a) r)} (λ h. rw (← own_level_same p r e, ← level_same p r e (level_from (level a) r)) h) (rooted_up p r e))
 
   -- the origin of a banker's queue is a published place where it has a rotation
   origin_there : (p : ℕ) (test : Rec → Bool) → holds a p test ≡ true → IsPublished a p
   origin_there p test h = let k = at_true test (a p) h in (k.0, k.1)
 
-  rotated_up : (front lenf origin n tails : ℕ) → IsPublished a front → Up (is_rotated a front lenf origin n tails) (is_rotated b front lenf origin n tails)
+  pub rotated_up : (front lenf origin n tails : ℕ) → IsPublished a front → Up (is_rotated a front lenf origin n tails) (is_rotated b front lenf origin n tails)
   rotated_up front lenf origin n tails is h =
       let parts = and_parts (holds a origin (is_bank_origin n) && eqb (lenf + tails) (2 * n + 1) && same_entries (cells a front) (drop tails (cells a origin))) _ h in
       let more = and_parts (holds a origin (is_bank_origin n) && eqb (lenf + tails) (2 * n + 1)) _ parts.0 in
@@ -263,38 +268,39 @@ module _ (a b : Records) (names : NamesWell a) (keeps : Keeps a b) where
       (or_up (at_up _ _ (a xs.0) (b xs.0) (keeps xs.0) (λ r. same_up)) (λ k. sym (plain_kept a b names keeps xs.0 s.0.there) ∙ k)) (rw s.1.0.cells at h)
   banks_by p _ s = same_up
 
-  pub banks_up : (p : ℕ) (r : Rec) → a p ≡ Some r → Up (is_bank_queue a p r) (is_bank_queue b p r)
+  pub banks_up : (p : ℕ) (r : Rec) → AllByRecursion (IsNamedWell a p) (named r) → Up (is_bank_queue a p r) (is_bank_queue b p r)
   banks_up p r e = banks_by p r (same_named p r e)
 
 -- ---- what speaks of states
 
+-- so many cells on, when the world has grown
+pub walk_up : (a b : World) → Grows a b → (n p q : ℕ) → walk a n p ≡ Some q → walk b n p ≡ Some q
+walk_up a b x zero p q h = h
+walk_up a b x (suc n) p q h = go (walk a n p) refl (walk_up a b x n p) h
+  where
+    step : (o : Option Rec) (o' : Option Rec) → ((r : Rec) → o ≡ Some r → o' ≡ Some r) → option_and_then rest_of o ≡ Some q → option_and_then rest_of o' ≡ Some q
+    step None o' k e = cc
+    step (Some r) o' k e = rw (k r refl) e
+
+    go : (o : Option ℕ) → walk a n p ≡ o → ((m : ℕ) → walk a n p ≡ Some m → walk b n p ≡ Some m) → option_and_then (λ k. option_and_then rest_of (value_at a k)) o ≡ Some q → walk b (suc n) p ≡ Some q
+    go None e ih k = cc
+    go (Some m) e ih k = rw (ih m e) (step (value_at a m) (value_at b m) (value_up a b x m) k)
+
 module _ (a b : World) (names : NamesWell (recs a)) (x : Grows a b) where
-  pub walk_up : (n p q : ℕ) → walk a n p ≡ Some q → walk b n p ≡ Some q
-  walk_up zero p q h = h
-  walk_up (suc n) p q h = go (walk a n p) refl (walk_up n p) h
-    where
-      step : (o : Option Rec) (o' : Option Rec) → ((r : Rec) → o ≡ Some r → o' ≡ Some r) → option_and_then rest_of o ≡ Some q → option_and_then rest_of o' ≡ Some q
-      step None o' k e = cc
-      step (Some r) o' k e = rw (k r refl) e
-
-      go : (o : Option ℕ) → walk a n p ≡ o → ((m : ℕ) → walk a n p ≡ Some m → walk b n p ≡ Some m) → option_and_then (λ k. option_and_then rest_of (value_at a k)) o ≡ Some q → walk b (suc n) p ≡ Some q
-      go None e ih k = cc
-      go (Some m) e ih k = rw (ih m e) (step (value_at a m) (value_at b m) (value_up a b x m) k)
-
   some_walk : (n p : ℕ) → Up (is_some (walk a n p)) (is_some (walk b n p))
   some_walk n p h = go (walk a n p) refl h
     where
       go : (o : Option ℕ) → walk a n p ≡ o → is_some o ≡ true → is_some (walk b n p) ≡ true
       go None e k = absurd (true≢false (sym k))
-      go (Some q) e k = rw (walk_up n p q e) refl
+      go (Some q) e k = rw (walk_up a b x n p q e) refl
 
   rts_by : (p : ℕ) (r : Rec) → AllByRecursion (λ (q : NamedPlace). Same (recs a) (recs b) names x.records q.0) (named r) → Up (is_rt_queue a p r) (is_rt_queue b p r)
-  rts_by p (RtTop front lenf rear lenr sched) s = and_up (and_up same_up (some_up _ _ (walk a lenr front.0) (walk b lenr front.0) (walk_up lenr front.0) (λ q. same_up)))
+  rts_by p (RtTop front lenf rear lenr sched) s = and_up (and_up same_up (some_up _ _ (walk a lenr front.0) (walk b lenr front.0) (walk_up a b x lenr front.0) (λ q. same_up)))
       (or_up (holds_up a b x sched.0 _ _ (λ r. same_up)) (λ k. sym (plain_kept (recs a) (recs b) names x.records sched.0 s.1.1.0.there) ∙ k))
   rts_by p (RtRot xs rear acc left _ off) s = λ h. and_up (and_up (and_up (some_walk left xs.0) same_up) same_up) (λ k. sym (plain_kept (recs a) (recs b) names x.records acc.0 s.1.1.0.there) ∙ k) (rw (s.1.0.cells, s.1.1.0.cells) at h)
   rts_by p _ s = same_up
 
-  pub rts_up : (p : ℕ) (r : Rec) → recs a p ≡ Some r → Up (is_rt_queue a p r) (is_rt_queue b p r)
+  pub rts_up : (p : ℕ) (r : Rec) → AllByRecursion (IsNamedWell (recs a) p) (named r) → Up (is_rt_queue a p r) (is_rt_queue b p r)
   rts_up p r e = rts_by p r (same_named (recs a) (recs b) names x.records p r e)
 
   all_up : (f g : Kind → Bool) (ks : List Kind) → ((k : Kind) → Up (f k) (g k)) → Up (list_all f ks) (list_all g ks)
@@ -307,7 +313,7 @@ module _ (a b : World) (names : NamesWell (recs a)) (x : Grows a b) where
 
   module _ (there : (p : ℕ) (d : ℕ × ℕ) → done_at a p ≡ Some d → IsPublished (recs a) d.0) where
     -- the value of a place that is a value or done is known
-    known : (p : ℕ) → is_value a p ≡ true → (v : Rec) × (value_at a p ≡ Some v)
+    pub known : (p : ℕ) → is_value a p ≡ true → (v : Rec) × (value_at a p ≡ Some v)
     known p h = go (recs a p) refl (or_cases _ _ h)
       where
         at_done : (s : Rec) (c : Bool) → (o : Option (ℕ × ℕ)) → done_at a p ≡ o → is_some_and (λ d. true) o ≡ true → (v : Rec) × (cond c (option_and_then (λ k. recs a k.0) o) (Some s) ≡ Some v)
@@ -401,6 +407,7 @@ module _ (a b : World) (names : NamesWell (recs a)) (x : Grows a b) where
           trees = implies_up (same_sort (sort_of r) sorts.TreeList) (λ k. sym (tree_list_kept (recs a) (recs b) names x.records d.0 is) ∙ k) h.trees;
           keys = implies_up (same_sort (sort_of r) sorts.Finger) (all_up (λ k. implies (keeps_keys k (recs a) p) (keeps_keys k (recs a) d.0)) (λ k. implies (keeps_keys k (recs b) p) (keeps_keys k (recs b) d.0)) (kinds.Seq ∷ kinds.Prio ∷ kinds.Ord ∷ [])
               (λ k j. rw (keeps_keys_kept (recs a) (recs b) names x.records k p (r, e), keeps_keys_kept (recs a) (recs b) names x.records k d.0 is) at j)) h.keys;
+          levels = implies_up (same_sort (sort_of r) sorts.Finger) (λ k. rw (← level_kept (recs a) (recs b) names x.records d.0 is, ← own_level_kept (recs a) (recs b) names x.records p (r, e)) k) h.levels;
           means = sym (means_kept (recs a) (recs b) names x.records d.0 is) ∙ h.means ∙ means_kept (recs a) (recs b) names x.records p (r, e);
           cells = sym (cells_kept (recs a) (recs b) names x.records d.0 is) ∙ h.cells ∙ cells_kept (recs a) (recs b) names x.records p (r, e);
         }
@@ -418,14 +425,14 @@ module _ (a b : World) (names : NamesWell (recs a)) (x : Grows a b) where
 
   queue_of_children_up : (p : ℕ) → Up (is_queue_of_children (recs a) p) (is_queue_of_children (recs b) p)
   queue_of_children_up p h =
-      let k = at_true (on_queue (λ front _ rear _ _. has_children (recs a) front && has_children (recs a) rear)) (recs a p) h in
+      let k = at_true (on_rt_queue (λ front _ rear _ _. has_children (recs a) front && has_children (recs a) rear)) (recs a p) h in
       rw (x.records p k.0 k.1) (by k.0 (names p k.0 k.1) k.2)
     where
-      by : (r : Rec) → AllByRecursion (IsNamedWell (recs a) p) (named r) → Up (on_queue (λ front _ rear _ _. has_children (recs a) front && has_children (recs a) rear) r) (on_queue (λ front _ rear _ _. has_children (recs b) front && has_children (recs b) rear) r)
+      by : (r : Rec) → AllByRecursion (IsNamedWell (recs a) p) (named r) → Up (on_rt_queue (λ front _ rear _ _. has_children (recs a) front && has_children (recs a) rear) r) (on_rt_queue (λ front _ rear _ _. has_children (recs b) front && has_children (recs b) rear) r)
       by (RtTop front _ rear _ _) n = and_up (children_up front.0 (n.0.1, n.0.2)) (children_up rear.0 (n.1.0.1, n.1.0.2))
       by _ n = same_up
 
-  pub cats_up : (p : ℕ) (r : Rec) → recs a p ≡ Some r → Up (is_cat (recs a) p r) (is_cat (recs b) p r)
+  pub cats_up : (p : ℕ) (r : Rec) → AllByRecursion (IsNamedWell (recs a) p) (named r) → Up (is_cat (recs a) p r) (is_cat (recs b) p r)
   cats_up p (CatNode _ kids _) e = queue_of_children_up kids.0
   cats_up p (LinkAll queue _ _ _ _) e = queue_of_children_up queue.0
   cats_up p _ e = same_up

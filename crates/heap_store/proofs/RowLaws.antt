@@ -12,11 +12,11 @@ use Rattle.lazy_rec.specs.declared.events.Reply.{Reply}
 use Rattle.heap_store.specs.declared.nodes.Node.{Node}
 use Rattle.heap_store.specs.declared.versions.Version.{Version}
 use Rattle.heap_store.specs.World.{World, recs, holds}
-use Rattle.heap_store.specs.Rows.{Row, row_at, version_of, version_at}
+use Rattle.heap_store.specs.Rows.{row_at, version_at}
 use Rattle.heap_store.specs.Growth.{Grows}
 use Rattle.heap_store.specs.Legal.{IsLegal, in_order}
 use Rattle.heap_store.specs.Lawful.{is_root}
-use Rattle.heap_store.specs.LookedAt.{HasRoots, looked_at_kids, has_one, looked_at, has_looked, row_has_looked, is_result, grows_by, size_of}
+use Rattle.heap_store.specs.LookedAt.{HasRoots, looked_at_kids, has_one, looked_at, has_looked, row_has_looked, is_result, is_longer_by, size_of}
 use Rattle.heap_store.proofs.NameLaws.{NamesWell, IsPublished}
 use Rattle.heap_store.proofs.GrowthLaws.{Up, and_up, same_up, at_up, at_true, is_value_up}
 use Rattle.heap_store.proofs.CompletionLaws.{cond_up, first_cell_up}
@@ -51,34 +51,33 @@ module _ (a b : World) (names : NamesWell (recs a)) (x : Grows a b) where
   one_up : (p : ℕ) → IsPublished (recs a) p → has_one a p ≡ has_one b p
   one_up p is = rw (elements_up a b names x p is) refl
 
-  looked_up : (p : ℕ) (op : Op) (grows : Bool) (r : Rec) → recs a p ≡ Some r → Up (looked_at a op grows r) (looked_at b op grows r)
-  looked_up p ops.Head grows (StreamTop front _) e = is_value_up a b x front.0
-  looked_up p ops.Tail grows (StreamTop front _) e = is_value_up a b x front.0
-  looked_up p ops.Head grows (BankTop front _ _ _ _ _ _ _) e = is_value_up a b x front.0
-  looked_up p ops.Tail grows (BankTop front _ _ _ _ _ _ _) e = is_value_up a b x front.0
-  looked_up p ops.Head grows (RtTop front _ _ _ _) e = is_value_up a b x front.0
-  looked_up p ops.Tail grows (RtTop front _ _ _ sched) e = and_up (is_value_up a b x front.0) (is_value_up a b x sched.0)
-  looked_up p ops.Snoc grows (RtTop _ _ _ _ sched) e = is_value_up a b x sched.0
-  looked_up p ops.Min grows (HeapTop list _ _) e = is_value_up a b x list.0
-  looked_up p ops.Delmin grows (HeapTop list _ _) e = is_value_up a b x list.0
-  looked_up p ops.Popl grows (Deep left middle right z k) e = let n = names p (Deep left middle right z k) e in
+  looked_up : (p : ℕ) (op : Op) (longer : Bool) (r : Rec) → recs a p ≡ Some r → Up (looked_at a op longer r) (looked_at b op longer r)
+  looked_up p ops.Head longer (StreamTop front _) e = is_value_up a b x front.0
+  looked_up p ops.Tail longer (StreamTop front _) e = is_value_up a b x front.0
+  looked_up p ops.Head longer (BankTop front _ _ _ _ _ _ _) e = is_value_up a b x front.0
+  looked_up p ops.Tail longer (BankTop front _ _ _ _ _ _ _) e = is_value_up a b x front.0
+  looked_up p ops.Head longer (RtTop front _ _ _ _) e = is_value_up a b x front.0
+  looked_up p ops.Tail longer (RtTop front _ _ _ sched) e = and_up (is_value_up a b x front.0) (is_value_up a b x sched.0)
+  looked_up p ops.Snoc longer (RtTop _ _ _ _ sched) e = is_value_up a b x sched.0
+  looked_up p ops.Min longer (HeapTop list _ _) e = is_value_up a b x list.0
+  looked_up p ops.Delmin longer (HeapTop list _ _) e = is_value_up a b x list.0
+  looked_up p ops.Popl longer (Deep left middle right z k) e = let n = names p (Deep left middle right z k) e in
       λ h. cond_up (has_one b left.0) (is_value_up a b x middle.0) same_up (rw (one_up left.0 (n.0.1, n.0.2)) at h)
-  looked_up p ops.Popr grows (Deep left middle right z k) e = let n = names p (Deep left middle right z k) e in
+  looked_up p ops.Popr longer (Deep left middle right z k) e = let n = names p (Deep left middle right z k) e in
       λ h. cond_up (has_one b right.0) (is_value_up a b x middle.0) same_up (rw (one_up right.0 (n.1.1.0.1, n.1.1.0.2)) at h)
-  looked_up p op grows (CatNode item kids _) e = cond_up grows (at_up _ _ (recs a kids.0) (recs b kids.0) (x.records kids.0) (kids_up op)) same_up
-  looked_up p _ grows _ e = same_up
+  looked_up p op longer (CatNode item kids _) e = cond_up longer (at_up _ _ (recs a kids.0) (recs b kids.0) (x.records kids.0) (kids_up op)) same_up
+  looked_up p _ longer _ e = same_up
 
   -- what an event has looked at stays known
   pub has_looked_up : (op : Op) (reply : Reply) (root other : ℕ) → Up (has_looked a op reply root other) (has_looked b op reply root other)
   has_looked_up (ops.New _) reply root other = same_up
-  has_looked_up op reply root other = cond_up (is_result reply) (λ h. (let k = at_true (looked_at a op (grows_by op other)) (recs a root) h in rw (x.records root k.0 k.1) (looked_up root op (grows_by op other) k.0 k.1 k.2))) same_up
+  has_looked_up op reply root other = cond_up (is_result reply) (λ h. (let k = at_true (looked_at a op (is_longer_by op other)) (recs a root) h in rw (x.records root k.0 k.1) (looked_up root op (is_longer_by op other) k.0 k.1 k.2))) same_up
 
 -- the same rows over other places
 module _ (w : World) (nodes : List (Option Node)) (names : NamesWell (recs w)) (x : Grows w (record w { nodes = nodes })) where
-  root_there : IsLegal w → (i : ℕ) (r : Row) → row_at w i ≡ Some r → (v : Version) → version_of r.ending ≡ Some v → IsPublished (recs w) v.root.0
-  root_there legal i r e v f =
-      let k = and_parts _ _ (legal.versions i r e v f) in
-      let t = at_true _ (recs w v.root.0) k.1 in (t.0, t.1)
+  root_there : IsLegal w → (n : ℕ) (v : Version) → version_at (row_at w) n ≡ Some v → IsPublished (recs w) v.root.0
+  root_there legal n v f =
+      let t = at_true _ (recs w v.root.0) (and_parts _ _ (legal.versions n v f)).1 in (t.0, t.1)
 
   pub legal_kept : IsLegal w → IsLegal (record w { nodes = nodes })
   legal_kept legal = record {
@@ -87,15 +86,16 @@ module _ (w : World) (nodes : List (Option Node)) (names : NamesWell (recs w)) (
     bases = legal.bases;
     begun = legal.begun;
     kinds = legal.kinds;
-    versions = λ i r e v f. and_up same_up (at_up _ _ (recs w v.root.0) (recs (record w { nodes = nodes }) v.root.0) (x.records v.root.0) (λ t. same_up)) (legal.versions i r e v f);
+    seconds = legal.seconds;
+    versions = λ n v f. and_up same_up (at_up _ _ (recs w v.root.0) (recs (record w { nodes = nodes }) v.root.0) (x.records v.root.0) (λ t. same_up)) (legal.versions n v f);
     replies = legal.replies;
-    meanings = λ i r e v f. (let k = means_kept (recs w) (recs (record w { nodes = nodes })) names x.records v.root.0 (root_there legal i r e v f) in ap (in_order v.kind) (sym k) ∙ legal.meanings i r e v f);
+    meanings = λ n v f. (let k = means_kept (recs w) (recs (record w { nodes = nodes })) names x.records v.root.0 (root_there legal n v f) in ap (in_order v.kind) (sym k) ∙ legal.meanings n v f);
   }
 
   pub roots_kept : HasRoots w → HasRoots (record w { nodes = nodes })
   roots_kept roots = record {
-    roots = λ i r e v f. has_root_up w (record w { nodes = nodes }) names x v.kind v.root.0 (roots.roots i r e v f);
-    looked = λ i r e told v f. by r.event told (version_at (row_at w) r.event.base) (roots.looked i r e told v f);
+    roots = λ n v f. has_root_up w (record w { nodes = nodes }) names x v.kind v.root.0 (roots.roots n v f);
+    looked = λ i r e told f. by r.event told (version_at (row_at w) r.event.base) (roots.looked i r e told f);
   }
     where
       by : (e : Event) (told : Reply) (base : Option Version) → Up (row_has_looked w (row_at w) e told base) (row_has_looked (record w { nodes = nodes }) (row_at w) e told base)

@@ -1,5 +1,5 @@
 -- What is discharged, which suspensions are paid for, and how far the dues and the places of the events reach.
-use Rattle.std.specs.Prelude.{ℕ, zero, suc, ◌+◌, ◌*◌, ◌≤◌, eqb, leb, Bool, true, cond, not, ◌&&◌, ◌||◌, Option, Some, None, List, [], ◌∷◌, ◌++◌, length, sum_by, filter}
+use Rattle.std.specs.Prelude.{◌≡◌, ℕ, zero, suc, ◌+◌, ◌-◌, ◌*◌, ◌≤◌, eqb, leb, Bool, true, cond, not, ◌||◌, Option, Some, None, List, [], ◌∷◌, ◌++◌, length, sum_by, filter}
 use Rattle.std.specs.List.{list_all, list_any}
 use Rattle.std.specs.Set.{is_member, distinct_count}
 use Rattle.lazy_rec.specs.declared.records.Rec.{Rec}
@@ -12,15 +12,14 @@ use Rattle.lazy_rec.specs.Tests.{implies}
 use Rattle.lazy_rec.specs.Due as by_kind
 use Rattle.lazy_rec.specs.Named.{Records, at_record, is_pending}
 use Rattle.lazy_rec.specs.States.{kept, given_up}
-use Rattle.lazy_rec.specs.History.{kind_of}
+use Rattle.lazy_rec.specs.History.{event_name, kind_of}
 use Rattle.lazy_rec.specs.Units.{WorkUnit, same_unit, units, units_below, family_of, steps, credits, paid}
 use Rattle.heap_store.specs.declared.nodes.Node.{Node}
-use Rattle.heap_store.specs.declared.claims.HeldClaim.{HeldClaim}
-use Rattle.heap_store.specs.World.{World, recs, is_done, is_taken}
+use Rattle.heap_store.specs.World.{World, recs, holds, is_done, is_taken, fixed_places}
 use Rattle.heap_store.specs.Rows.{Row, row_of, row_at, version_at, events_of}
 use Rattle.heap_store.specs.Lawful.{EachRecord}
 use Rattle.heap_store.specs.LookedAt.{size_of}
-use Rattle.heap_store.specs.Hand.{Hand}
+use Rattle.heap_store.specs.Hand.{Hand, is_built}
 
 -- ---- units
 
@@ -41,6 +40,10 @@ units_beyond seen us = filter (λ u. not (is_member same_unit seen u)) us
 abbrev pub gain : ℕ → Records → ℕ → Rec → ℕ
 gain size rs p r = unit_count (units_beyond (discharged rs size) (paid rs p r))
 
+-- the same in a world
+abbrev pub gain_at : World → ℕ → Rec → ℕ
+gain_at w p r = gain (length w.nodes) (recs w) p r
+
 abbrev pub all_discharged : World → List WorkUnit
 all_discharged w = discharged (recs w) (length w.nodes)
 
@@ -51,6 +54,10 @@ are_discharged w us = list_all (λ u. is_member same_unit (all_discharged w) u) 
 
 abbrev pub is_funded : World → ℕ → Rec → Bool
 is_funded w p r = are_discharged w (units p r)
+
+-- a suspension that is paid for
+abbrev pub is_funded_at : World → ℕ → Bool
+is_funded_at w p = holds (recs w) p (is_funded w p)
 
 -- all units of the family of a banker's rotation
 abbrev pub bank_family : Rec → List WorkUnit
@@ -80,7 +87,7 @@ pub record Running : Type 0 where
 
 -- a claim of the place is in a hand, and its attempt has published a place
 abbrev pub is_being_built : Running → ℕ → Bool
-is_being_built g p = list_any (λ (h : Hand). list_any (λ (c : HeldClaim). eqb c.place.0 p && c.built) h.claims) g.hands
+is_being_built g p = list_any (λ (h : Hand). is_built h.claims p) g.hands
 
 abbrev pub sum_below : ℕ → Records → (ℕ → Rec → ℕ) → ℕ
 sum_below zero rs f = 0
@@ -102,17 +109,28 @@ of_based table w e (Some k) = table k e.op (size_of (version_at (row_at w) e.bas
 
 abbrev pub of_event : (Kind → Op → ℕ → ℕ → ℕ) → World → Event → Op → ℕ
 of_event table w e (ops.New k) = table k e.op 0 0
-of_event table w e _ = of_based table w e (kind_of (events_of (row_at w)) e.base)
+of_event table w e _ = of_based table w e (kind_of (events_of (row_at w)) (event_name e.base))
 
 abbrev pub of_row : (Kind → Op → ℕ → ℕ → ℕ) → World → Option Row → ℕ
 of_row table w None = 0
 of_row table w (Some r) = cond r.begun (of_event table w r.event r.event.op) 0
+
+-- the due and the places of the row of a name
+abbrev pub due_at : World → ℕ → ℕ
+due_at w name = of_row by_kind.due w (row_at w name)
+
+abbrev pub direct_at : World → ℕ → ℕ
+direct_at w name = of_row by_kind.direct w (row_at w name)
 
 abbrev pub dues : World → ℕ
 dues w = sum_rows (λ i words. of_row by_kind.due w (row_of i words)) 1 w.rows
 
 abbrev pub direct_places : World → ℕ
 direct_places w = sum_rows (λ i words. of_row by_kind.direct w (row_of i words)) 1 w.rows
+
+-- the places that all events together may take, with eight for each step that they are charged
+abbrev pub room_of : World → ℕ
+room_of w = direct_places w + 8 * dues w
 
 -- the credits that completions brought
 abbrev pub credits_brought : Running → ℕ
@@ -130,6 +148,16 @@ taken_steps w = sum_records w (λ p r. cond (is_taken w p) (steps r) 0)
 pub record IsInBudget (g : Running) : Type 0 where
   pub paid : unit_count (all_discharged g.world) + sum_by (λ (h : Hand). h.credits) g.hands ≤ dues g.world + credits_brought g
   pub places : places_given g + sum_by (λ (h : Hand). h.allowance) g.hands ≤ direct_places g.world + 8 * taken_steps g.world
+
+-- one hand alone works on a world
+abbrev pub alone_with : World → Hand → Running
+alone_with w h = record { world = w; hands = h ∷ []; plan = None }
+
+-- the same as equations: what the dues and the completions brought is discharged, in hand, or was lost, as a hand that hasn't
+-- seen all pays for what another one paid; and what the events and the steps may take is given, or in hand
+pub record IsBalanced (g : Running) (lost : ℕ) : Type 0 where
+  pub paid : unit_count (all_discharged g.world) + sum_by (λ (h : Hand). h.credits) g.hands + lost ≡ dues g.world + credits_brought g
+  pub places : places_given g + sum_by (λ (h : Hand). h.allowance) g.hands ≡ direct_places g.world + 8 * taken_steps g.world
 
 -- ---- totals
 
@@ -156,9 +184,9 @@ total_steps w = sum_by (λ n. sum_by (λ (d : ℕ × ℕ). d.1) (done_of n)) w.n
 abbrev pub total_given_up : World → ℕ
 total_given_up w = sum_by given_up_of w.nodes
 
--- the published places, the five fixed ones among them
+-- the published places beside the fixed ones
 abbrev pub total_nodes : World → ℕ
-total_nodes w = sum_by node_count_of w.nodes
+total_nodes w = sum_by node_count_of w.nodes - fixed_places
 
 -- ---- callers
 

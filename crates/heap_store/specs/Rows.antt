@@ -1,22 +1,22 @@
--- Rows of events, and the six words that show one.
-use Rattle.std.specs.Prelude.{ℕ, zero, suc, ◌-◌, ◌/◌, ◌%◌, ◌^◌, eqb, leb, Bool, true, false, cond, Option, Some, None, List, [], ◌∷◌, slice_index, slice_index_or, slice_get, slice_set, option_map, option_and_then}
+-- Rows of events, and the eight words that show one.
+use Rattle.std.specs.Prelude.{ℕ, zero, suc, ◌+◌, ◌-◌, ◌/◌, ◌%◌, ◌^◌, eqb, leb, ltb, ◌&&◌, Bool, true, false, cond, Option, Some, None, List, [], ◌∷◌, slice_index, slice_index_or, slice_set, option_map, option_and_then}
 use Rattle.lazy_rec.specs.declared.events.Kind.{Kind}
-use Rattle.lazy_rec.specs.declared.events.Kind.TheVariants as kinds
 use Rattle.lazy_rec.specs.declared.events.Op.{Op}
-use Rattle.lazy_rec.specs.declared.events.Op.TheVariants as ops
 use Rattle.lazy_rec.specs.declared.events.Event.{Event}
 use Rattle.lazy_rec.specs.declared.events.Reply.{Reply}
 use Rattle.lazy_rec.specs.declared.events.Reply.TheVariants as replies
 use Rattle.lazy_rec.specs.Tests.{is_some_and}
+use Rattle.lazy_rec.specs.Numbering.{kind_of_number, op_of_number}
+use Rattle.lazy_rec.specs.History.{second_mark, is_second, event_name}
 use Rattle.heap_store.specs.declared.versions.Version.{Version}
 use Rattle.heap_store.specs.World.{World}
 
 -- ---- rows
 
--- how a row ended: with a reply and a version; or given up, with no version
+-- how a row ended: with a reply and a version, a split with a second version too; or given up, with no version
 pub data Ending : Type 0 where
   not_ended : Ending
-  answered : Reply → Version → Ending
+  answered : Reply → Version → Option Version → Ending
   full : ℕ → ℕ → Ending
   memory : Ending
   no_base : Ending
@@ -28,9 +28,23 @@ pub record Row : Type 0 where
   pub begun : Bool
   pub ending : Ending
 
-abbrev pub version_of : Ending → Option Version
-version_of (answered _ v) = Some v
-version_of _ = None
+-- the first version of a row
+abbrev pub first_of : Ending → Option Version
+first_of (answered _ v _) = Some v
+first_of _ = None
+
+-- the second one
+abbrev pub second_of : Ending → Option Version
+second_of (answered _ _ w) = w
+second_of _ = None
+
+-- the one that a version's number tells
+abbrev pub version_of : ℕ → Ending → Option Version
+version_of n e = cond (is_second n) (second_of e) (first_of e)
+
+abbrev pub reply_of : Ending → Option Reply
+reply_of (answered told _ _) = Some told
+reply_of _ = None
 
 abbrev pub is_ended : Ending → Bool
 is_ended not_ended = false
@@ -57,18 +71,6 @@ is_without_base _ = false
 
 -- ---- words
 
--- the kinds and the operations in the order of their numbers
-abbrev pub all_kinds : List Kind
-all_kinds = kinds.Stream ∷ kinds.Bankq ∷ kinds.Rtq ∷ kinds.Heap ∷ kinds.Seq ∷ kinds.Prio ∷ kinds.Ord ∷ kinds.Cat ∷ []
-
-abbrev pub numbered_ops : List Op
-numbered_ops = ops.Size ∷ ops.Cons ∷ ops.Snoc ∷ ops.Append ∷ ops.Reverse ∷ ops.Head ∷ ops.Tail ∷ ops.Insert ∷ ops.Min ∷ ops.Delmin ∷ ops.Meld ∷ ops.Max ∷ ops.Delmax
-    ∷ ops.Pushl ∷ ops.Pushr ∷ ops.Popl ∷ ops.Popr ∷ ops.First ∷ ops.Last ∷ ops.Nth ∷ ops.Take ∷ ops.Drop ∷ ops.Concat ∷ ops.Has ∷ ops.Remove ∷ ops.Upto ∷ []
-
--- the operation with a number: from 1 on in order, and `new` of a kind as 32 and the kind's number
-abbrev pub op_of_number : ℕ → Option Op
-op_of_number n = cond (leb 32 n) (option_map ops.New (slice_get all_kinds (n - 32))) (cond (eqb n 0) None (slice_get numbered_ops (n - 1)))
-
 abbrev pub word : List ℕ → ℕ → ℕ
 word words i = slice_index words i
 
@@ -81,21 +83,35 @@ abbrev pub version_with : ℕ → ℕ → Kind → Version
 version_with name w kind = record { name = name; kind = kind; size = w / 2 ^ 32; root = record { 0 = w % 2 ^ 22 } }
 
 abbrev pub version_of_word : ℕ → ℕ → Option Version
-version_of_word name w = option_map (version_with name w) (slice_get all_kinds (w / 2 ^ 22 % 2 ^ 10))
+version_of_word name w = option_map (version_with name w) (kind_of_number (w / 2 ^ 22 % 2 ^ 10))
 
--- word 4 has the reply: 0 ok, 1 empty, 2 toolong, 3 a number, which stands from bit 3 on
-abbrev pub reply_of_word : ℕ → Reply
-reply_of_word w = slice_index_or (replies.Ok ∷ replies.Empty ∷ replies.TooLong ∷ replies.Number (w / 8) ∷ []) (w % 8) replies.Ok
+-- word 6 has the second root's place and the second size; it is 0 where there is no second version. Its kind is the first one's
+abbrev pub is_second_word : ℕ → Bool
+is_second_word w = ltb (w % 2 ^ 32) (2 ^ 22) && ltb (w / 2 ^ 32) (2 ^ 31)
 
-abbrev pub answered_if : Reply → Option Version → Ending
-answered_if reply None = not_ended
-answered_if reply (Some v) = answered reply v
+abbrev pub second_of_word : ℕ → ℕ → Version → Option Version
+second_of_word name w first = cond (eqb w 0) None (Some (record { name = name + second_mark; kind = first.kind; size = w / 2 ^ 32; root = record { 0 = w % 2 ^ 32 } }))
+
+-- word 4 has the reply: 0 ok, 1 empty, 2 toolong, or 3 a number, which stands in word 7. No other word is a reply's
+abbrev pub is_reply_word : ℕ → Bool
+is_reply_word w = ltb w 4
+
+abbrev pub reply_of_words : ℕ → ℕ → Reply
+reply_of_words w number = slice_index_or (replies.Ok ∷ replies.Empty ∷ replies.TooLong ∷ replies.Number number ∷ []) w replies.Ok
+
+-- a row with a reply has the words of a reply and of versions
+abbrev pub answered_if : Bool → Reply → (Version → Option Version) → Option Version → Ending
+answered_if are_words told second None = not_ended
+answered_if are_words told second (Some v) = cond are_words (answered told v (second v)) not_ended
+
+abbrev pub answer_of : ℕ → List ℕ → Ending
+answer_of name words = answered_if (is_reply_word (word words 4) && is_second_word (word words 6))
+    (reply_of_words (word words 4) (word words 7)) (second_of_word name (word words 6)) (version_of_word name (word words 3))
 
 -- word 5 tells how the row ended, or 0; for a full row word 4 has the drawn and the wanted number
 abbrev pub ending_of : ℕ → List ℕ → Ending
 ending_of name words = slice_index_or
-    (not_ended ∷ answered_if (reply_of_word (word words 4)) (version_of_word name (word words 3))
-    ∷ full (word words 4 % 2 ^ 32) (word words 4 / 2 ^ 32) ∷ memory ∷ no_base ∷ []) (word words 5) not_ended
+    (not_ended ∷ answer_of name words ∷ full (word words 4 % 2 ^ 32) (word words 4 / 2 ^ 32) ∷ memory ∷ no_base ∷ []) (word words 5) not_ended
 
 -- word 0 is 1 and twice the caller's number of a begun event, twice the number after the caller's of a skipped one; from
 -- bit 8 on stands the operation's number
@@ -104,6 +120,10 @@ is_begun_word w = eqb (w % 2) 1
 
 abbrev pub caller_of_word : ℕ → ℕ
 caller_of_word w = cond (is_begun_word w) (w % 256 / 2) (w % 256 / 2 - 1)
+
+-- the operation of word 0, none where it shows no caller's number below 64
+abbrev pub op_of_word : ℕ → Option Op
+op_of_word w = cond (leb 1 (w % 256) && leb (w % 256) 128) (op_of_number (w / 256)) None
 
 abbrev pub row_with : ℕ → List ℕ → Op → Row
 row_with name words op = record {
@@ -115,11 +135,11 @@ row_with name words op = record {
 
 -- the row of a name that the words show, none before word 0 is stored
 abbrev pub row_of : ℕ → List ℕ → Option Row
-row_of name words = cond (eqb (word words 0) 0) None (option_map (row_with name words) (op_of_number (word words 0 / 256)))
+row_of name words = option_map (row_with name words) (op_of_word (word words 0))
 
 -- ---- the rows of a world
 
--- six words, or none where the name is 0 or past the rows
+-- eight words, or none where the name is 0 or past the rows
 abbrev pub words_at : World → ℕ → List ℕ
 words_at w zero = []
 words_at w (suc i) = slice_index_or w.rows i []
@@ -139,15 +159,19 @@ store_word w (suc k) i value = record w { rows = slice_set w.rows k (slice_set (
 abbrev pub NamedRows : Type 0
 NamedRows = ℕ → Option Row
 
+-- the version with a number
 abbrev pub version_at : NamedRows → ℕ → Option Version
-version_at rows i = option_and_then (λ (r : Row). version_of r.ending) (rows i)
+version_at rows n = option_and_then (λ (r : Row). version_of n r.ending) (rows (event_name n))
 
+-- there is a version with the number: its row is answered, and is one of a split where the version is a second one
 abbrev pub is_answered : NamedRows → ℕ → Bool
-is_answered rows i = is_some_and (λ _. true) (version_at rows i)
+is_answered rows n = is_some_and (λ _. true) (version_at rows n)
 
+-- the row of the version's name is given up
 abbrev pub is_given_up : NamedRows → ℕ → Bool
-is_given_up rows i = is_some_and (λ (r : Row). is_refused r.ending) (rows i)
+is_given_up rows n = is_some_and (λ (r : Row). is_refused r.ending) (rows (event_name n))
 
+-- the row of a name is ended
 abbrev pub is_ended_at : NamedRows → ℕ → Bool
 is_ended_at rows i = is_some_and (λ (r : Row). is_ended r.ending) (rows i)
 

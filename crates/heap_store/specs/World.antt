@@ -4,10 +4,10 @@ use Rattle.lazy_rec.specs.declared.records.Rec.{Rec}
 use Rattle.lazy_rec.specs.declared.states.SuspState.{SuspState}
 use Rattle.lazy_rec.specs.Tests.{is_some_and}
 use Rattle.lazy_rec.specs.Named.{Records, at_record, is_pending}
-use Rattle.lazy_rec.specs.States.{is_claimed, kept}
+use Rattle.lazy_rec.specs.States.{is_claimed, kept, given_up}
 use Rattle.heap_store.specs.declared.nodes.Node.{Node}
 
--- the places in order, none where one isn't published; the six words of each row, by name from 1 on
+-- the places in order, none where one isn't published; the eight words of each row, by name from 1 on
 pub record World : Type 0 where
   pub nodes : List (Option Node)
   pub rows : List (List ℕ)
@@ -22,6 +22,18 @@ recs w p = option_map (λ n. n.rec) (node_at w p)
 -- the state of each place
 abbrev pub state_at : World → ℕ → Option SuspState
 state_at w p = option_map (λ n. n.state) (node_at w p)
+
+-- how many attempts at a suspension were given back, as far as its count goes
+abbrev pub attempts_of : Option SuspState → ℕ
+attempts_of None = 0
+attempts_of (Some s) = given_up s
+
+abbrev pub attempts_at : World → ℕ → ℕ
+attempts_at w p = attempts_of (state_at w p)
+
+-- no attempt was given back
+abbrev pub SameAttempts : World → World → Type 0
+SameAttempts old new = (p : ℕ) → attempts_at new p ≡ attempts_at old p
 
 -- a place that shows this record and this state, and all others as before
 abbrev pub show : World → ℕ → Rec → SuspState → World

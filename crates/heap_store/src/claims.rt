@@ -1,6 +1,7 @@
 //! Claims, and the answers of a heap.
 
 use lazy_rec::Ref;
+use thiserror::Error;
 
 /// A claim in hand. `built` says that its attempt has published a place, `passed` that it has published the next
 /// suspension of its family.
@@ -27,14 +28,16 @@ pub enum Claim {
 }
 
 /// A reserve was refused: with `wanted` places more than the `drawn` ones the store would be too full.
-#[derive(Clone, Copy, Debug, PartialEq, Eq)]
+#[derive(Clone, Copy, Debug, PartialEq, Eq, Error)]
+#[error("store full: {wanted} places wanted where {drawn} are drawn")]
 pub struct Full {
     pub drawn: u64,
     pub wanted: u32,
 }
 
 /// All names of the store's rows are drawn.
-#[derive(Clone, Copy, Debug, PartialEq, Eq)]
+#[derive(Clone, Copy, Debug, PartialEq, Eq, Error)]
+#[error("all {drawn} names are drawn")]
 pub struct NamesFull {
     pub drawn: u64,
 }

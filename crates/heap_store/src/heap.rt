@@ -1,11 +1,12 @@
 //! The store as the structures see it: places that are read, reserved and filled, claims, and the rows of events.
-ghost use Rattle.std.specs.Prelude.{◌≡◌, ℕ, ◌+◌, ◌<◌, ◌≤◌, true, Some, IfOk, IfErr};
+ghost use Rattle.std.specs.Prelude.{◌≡◌, ℕ, ◌+◌, ◌^◌, ◌<◌, ◌≤◌, true, Some, IfOk, IfErr};
 ghost use Rattle.lazy_rec.specs.Named.{is_pending};
 ghost use Rattle.heap_store.specs.World.{recs, state_at, holds, is_published};
 ghost use Rattle.heap_store.specs.Rows.{word_at};
-ghost use Rattle.heap_store.specs.Hand.{IsInHand, holds_claim};
-ghost use Rattle.heap_store.specs.View.{View, IsLawfulView, Quiet, Reserved, Refused, Fits, Put, ClaimAnswer, MayComplete, Completed, is_unbuilt, GivenUp};
-ghost use Rattle.heap_store.specs.RowCalls.{Named, NoName, MayStore, Stored};
+ghost use Rattle.heap_store.specs.Hand.{IsInHand, holds_claim, is_unbuilt, places_of_steps};
+ghost use Rattle.heap_store.specs.Budget.{is_funded_at};
+ghost use Rattle.heap_store.specs.View.{View, IsLawfulView, Quiet, Reserved, Refused, Fits, Put, ClaimAnswer, MayComplete, Completed, GivenUp};
+ghost use Rattle.heap_store.specs.RowCalls.{NameDrawn, NoName, MayStore, Stored};
 
 use crate::claims::{Claim, Full, NamesFull};
 use crate::run::Run;
@@ -31,6 +32,7 @@ pub trait Heap {
     /// Reserves `k` consecutive places above all that was seen published. It is refused exactly where `k` is at least 1 and
     /// the store hasn't so many places left.
     fn reserve(&mut self, k: u32) -> Result<Run, Full>
+        requires { k ≤ (view self.old).hand.allowance }
         ensures ok { IfOk result (λ run. Reserved (view self.old) (view self.new) k run) }
         ensures err { IfErr result (λ full. Refused (view self.old) (view self.new) k full) };
 
@@ -48,29 +50,31 @@ pub trait Heap {
 
 /// A heap whose suspensions can be claimed and completed.
 pub trait Claims: Heap {
-    /// Claims a suspension, in one step: it is won exactly where it was unforced.
+    /// Claims a suspension that is paid for, in one step: it is won exactly where it was unforced.
     fn claim(&mut self, s: Ref) -> Claim
-        requires { holds (recs (Self.view self.old).seen) s.0 is_pending ≡ true }
+        requires pending { holds (recs (Self.view self.old).seen) s.0 is_pending ≡ true }
+        requires funded { is_funded_at (Self.view self.old).seen s.0 ≡ true }
         ensures { ClaimAnswer (Self.view self.old) (Self.view self.new) s result };
 
     /// Completes a claimed suspension, once and for all, with the place of its value.
     fn complete(&mut self, s: Ref, place: Ref, steps: u32)
         requires held { holds_claim (Self.view self.old).hand s.0 ≡ true }
         requires value { MayComplete (Self.view self.old).seen s.0 place.0 steps }
-        requires small { steps < 4194304 }
+        requires small { steps < 2 ^ 22 }
         ensures { Completed (Self.view self.old) (Self.view self.new) s.0 place.0 steps };
 
     /// Gives back a claim whose attempt has published nothing.
     fn give_up(&mut self, s: Ref)
-        requires { is_unbuilt (Self.view self.old).hand s.0 ≡ true }
+        requires unbuilt { is_unbuilt (Self.view self.old).hand s.0 ≡ true }
+        requires places { places_of_steps (recs (Self.view self.old).seen) s.0 ≤ (Self.view self.old).hand.allowance }
         ensures { GivenUp (Self.view self.old) (Self.view self.new) s.0 };
 }
 
-/// A heap with names, and rows of six words each for the events of these names.
+/// A heap with names, and rows of eight words each for the events of these names.
 pub trait Rows: Claims {
     /// Draws the next name, from 1 on. It is refused exactly where as many names as rows are drawn.
     fn draw_name(&mut self) -> Result<u32, NamesFull>
-        ensures ok { IfOk result (λ name. Named (Self.view self.old) (Self.view self.new) name) }
+        ensures ok { IfOk result (λ name. NameDrawn (Self.view self.old) (Self.view self.new) name) }
         ensures err { IfErr result (λ none. NoName (Self.view self.old) (Self.view self.new) none) };
 
     /// Stores a word of the row of a name that this heap has drawn and not ended.
@@ -82,7 +86,7 @@ pub trait Rows: Claims {
     fn load_row(&mut self, name: u32, word: u32) -> u64
         requires low { 1 ≤ name }
         requires high { name ≤ (Self.view self.old).about.rows }
-        requires word { word < 6 }
+        requires word { word < 8 }
         ensures quiet { Quiet (Self.view self.old) (Self.view self.new) }
         ensures value { result ≡ word_at (Self.view self.new).seen name word };
 

@@ -1,6 +1,10 @@
 //! Pending work, and events as jobs of one or more stages, by what a heap knows of them.
-ghost use Rattle.std.specs.Prelude.{◌≡◌, ℕ, true, Bool};
+ghost use Rattle.std.specs.Prelude.{◌≡◌, ℕ, ◌<◌, true, Bool};
+ghost use Rattle.lazy_rec.specs.declared.events.Kind.{Kind};
+ghost use Rattle.lazy_rec.specs.declared.events.Op.{Op};
 ghost use Rattle.lazy_rec.specs.declared.records.Rec.{Rec};
+ghost use Rattle.heap_store.specs.Stages.{StageName, position, StagesSum, LeavesEnough};
+ghost use Rattle.heap_store.specs.World.{World};
 ghost use Rattle.heap_store.specs.View.{Quiet};
 ghost use Rattle.heap_store.specs.Jobs.{IsWork, cursor_fits, Prepared, IsBuildable, IsBuilt};
 
@@ -28,7 +32,8 @@ impl Cursor {
     }
 }
 
-/// What work needs next: a suspension that must be done first, or so many places, where all needs are done.
+/// What work needs next: a suspension that must be done first, or so many places, where all needs are done. The load of a
+/// need's state is the last call before the answer: on a shared store any later call may show it done.
 #[derive(Clone, Copy, Debug, PartialEq, Eq)]
 pub enum Prep {
     Need(Ref),
@@ -62,13 +67,19 @@ pub enum Stage {
     },
 }
 
+/// The stages of one event show and take together at most what the whole event may.
+pub fn stages_fit_the_event()
+    ensures sums { (k : Kind) (op : Op) (n m : ℕ) → StagesSum k op n m }
+    ensures later { (k : Kind) (op : Op) (n m : ℕ) (now next : StageName) → position now < position next → LeavesEnough k op n m now next }
+{}
+
 /// An event at its present stage. For an operation without another version, `other` equals `base`.
 #[derive(Clone, Copy, Debug, PartialEq, Eq)]
 pub struct EventJob {
     pub op: Op,
     pub base: Version,
     pub other: Version,
-    pub arg: u32,
+    pub arg: u64,
     pub stage: Stage,
 }
 
@@ -84,18 +95,22 @@ pub trait Jobs {
     /// Whether a record is work of these kinds.
     ghost does: { Self → Rec → Bool };
 
+    /// What is told, with the number of places, of a suspension whose needs are done. It speaks of these kinds alone: of any
+    /// other record it says nothing (it is an implication from what the record is), so that kinds can be joined.
+    ghost told: { Self → World → ℕ → ℕ → Type 0 };
+
     /// What the pending record `s` needs. It forces, reserves and publishes nothing.
     fn prepare<H: Heap>(&self, h: &mut H, s: Ref, cursor: &mut Cursor) -> Prep
         requires work { IsWork (does self.now) (H.view h.old).seen s.0 }
         requires cursor { cursor_fits (H.view h.old).seen s.0 cursor.old ≡ true }
         ensures quiet { Quiet (H.view h.old) (H.view h.new) }
         ensures cursor { cursor_fits (H.view h.new).seen s.0 cursor.new ≡ true }
-        ensures answer { Prepared (does self.now) (H.view h.new).seen s.0 result };
+        ensures answer { Prepared (does self.now) (told self.now) (H.view h.new).seen s.0 result };
 
     /// Makes the value of `s`, whose needs are done, and fills the run with it. It has no refusal.
     fn build<H: Heap>(&self, h: &mut H, s: Ref, cursor: &Cursor, run: &mut Run) -> Built
         requires work { IsWork (does self.now) (H.view h.old).seen s.0 }
         requires cursor { cursor_fits (H.view h.old).seen s.0 cursor.now ≡ true }
-        requires build { IsBuildable (H.view h.old) s run.old }
+        requires build { IsBuildable (told self.now) (H.view h.old) s run.old }
         ensures { IsBuilt (H.view h.old) (H.view h.new) s.0 run.old run.new result.place.0 result.steps };
 }

@@ -1,10 +1,12 @@
 //! The store of one thread, over vectors.
-ghost use Rattle.std.specs.Prelude.{◌≡◌, ℕ, ◌+◌, ◌<◌, ◌≤◌, [], ◌∷◌, ◌++◌, ◌||◌, true, reverse, replicate, option_map, slice_index, vec_len, vec_capacity};
+ghost use Rattle.std.specs.Prelude.{◌≡◌, ℕ, ◌+◌, ◌<◌, ◌≤◌, [], ◌∷◌, ◌++◌, ◌||◌, true, reverse, replicate, map, slice_index, vec_len, vec_capacity};
+ghost use Rattle.lazy_rec.specs.declared.limits.TheConstants.{MOST_EVENTS, MOST_NODES};
 ghost use Rattle.heap_store.specs.World.{fixed_places};
 ghost use Rattle.heap_store.specs.Hand.{without_claim, is_later, mark_newest, all_distinct, claim_places};
-ghost use Rattle.heap_store.specs.Plain.{IsPlain, plain_view, fresh_node, five_records, row_after_end, row_after_word};
+ghost use Rattle.heap_store.specs.Plain.{IsPlain, plain_view, fresh_node, five_records, rows_after_word, begun_count};
 ghost use Rattle.heap_store.specs.Props.{IsPlain-prop, IsLawfulView-prop};
 ghost use Rattle.heap_store.specs.View.{IsLawfulView};
+ghost use Rattle.heap_store.specs.RowCalls.{begins_row};
 
 use crate::claims::{Claim, Full, HeldClaim, NamesFull, OpenRow};
 use crate::heap::{Claims, Heap, Rows};
@@ -19,8 +21,8 @@ use std::alloc::Global;
 pub struct PlainHeap {
     nodes: Vec<Option<Node>>,
     claims: Vec<HeldClaim>,
-    rows: Vec<[u64; 6]>,
-    open_row: Option<OpenRow>,
+    rows: Vec<[u64; 8]>,
+    open_rows: Vec<OpenRow>,
     capacity: u32,
     row_capacity: u32,
     refused: u64,
@@ -28,8 +30,10 @@ pub struct PlainHeap {
     ghost node_room: { fixed_places + capacity ≤ vec_capacity nodes },
     ghost claim_room: { fixed_places + capacity ≤ vec_capacity claims },
     ghost row_room: { row_capacity ≤ vec_capacity rows },
+    ghost open_room: { row_capacity ≤ vec_capacity open_rows },
+    ghost crowd: { vec_len open_rows ≤ begun_count rows.items },
     ghost plain: { IsPlain capacity row_capacity nodes.items (reverse claims.items) rows.items } by { IsPlain-prop capacity row_capacity nodes.items (reverse claims.items) rows.items },
-    ghost law: { IsLawfulView (plain_view nodes.items (reverse claims.items) rows.items open_row capacity row_capacity refused last) } by { IsLawfulView-prop (plain_view nodes.items (reverse claims.items) rows.items open_row capacity row_capacity refused last) },
+    ghost law: { IsLawfulView (plain_view nodes.items (reverse claims.items) rows.items open_rows.items capacity row_capacity refused last) } by { IsLawfulView-prop (plain_view nodes.items (reverse claims.items) rows.items open_rows.items capacity row_capacity refused last) },
 }
 
 impl PlainHeap {
@@ -38,8 +42,8 @@ impl PlainHeap {
 
     /// A store of so many places beside the five fixed ones, and of so many rows. It fails only for want of memory.
     pub fn open(alloc: Global, nodes: u32, rows: u32) -> Result<PlainHeap, NoMemory>
-        requires nodes { nodes ≤ 4000000 }
-        requires rows { rows ≤ 200000 }
+        requires nodes { nodes ≤ MOST_NODES }
+        requires rows { rows ≤ MOST_EVENTS }
         ensures { IfOk result (λ h. view_of h ≡ opened_view nodes rows) }
     {
         let places = nodes as usize + 5;
@@ -52,11 +56,14 @@ impl PlainHeap {
         let Ok(row_room) = Vec::with_capacity(alloc, rows as usize) else {
             return Err(NoMemory)
         };
+        let Ok(open_rows) = Vec::with_capacity(alloc, rows as usize) else {
+            return Err(NoMemory)
+        };
         Ok(PlainHeap {
             nodes: with_fixed_records(node_room),
             claims,
             rows: row_room,
-            open_row: None,
+            open_rows,
             capacity: nodes,
             row_capacity: rows,
             refused: 0,
@@ -82,7 +89,7 @@ impl PlainHeap {
     }
 
     /// The words of the row of a drawn name.
-    pub fn words(&self, name: u32) -> &[u64; 6]
+    pub fn words(&self, name: u32) -> &[u64; 8]
         requires low { 1 ≤ name }
         requires high { name ≤ (view_of self.now).named }
         ensures { result.now ≡ words_at (view_of self.now).seen name }
@@ -241,7 +248,7 @@ impl Heap for PlainHeap {
             };
             self.refused = self.refused.saturating_add(1);
             self.last = full;
-            self.open_row = refused_row(self.open_row);
+            note_refusal(&mut self.open_rows);
             return Err(full);
         }
         let first = drawn + 5;
@@ -260,16 +267,16 @@ impl Heap for PlainHeap {
     ghost lawful = { λ h. h.law };
 }
 
-/// The row that is worked on, with a refusal noted.
-fn refused_row(row: Option<OpenRow>) -> Option<OpenRow>
-    ensures { result ≡ option_map (λ (o : OpenRow). record o { refused = true }) row }
+/// A refusal is noted of each row that is worked on.
+fn note_refusal(rows: &mut Vec<OpenRow>)
+    ensures items { rows.new.items ≡ map (λ (o : OpenRow). record o { refused = true }) rows.old.items }
+    ensures room { vec_capacity rows.new ≡ vec_capacity rows.old }
 {
-    match row {
-        Some(open) => Some(OpenRow {
-            name: open.name,
+    for i in 0..rows.len() {
+        rows[i] = OpenRow {
+            name: rows[i].name,
             refused: true,
-        }),
-        None => None,
+        };
     }
 }
 
@@ -336,34 +343,29 @@ impl Claims for PlainHeap {
 }
 
 /// A word of a row.
-fn word_of(row: &[u64; 6], word: u32) -> u64
-    requires { word < 6 }
+fn word_of(row: &[u64; 8], word: u32) -> u64
+    requires { word < 8 }
     ensures { result ≡ slice_index row.now word }
 {
     row[word as usize]
 }
 
-/// The row that is worked on after the row of this name has ended.
-fn after_end(row: Option<OpenRow>, name: u32) -> Option<OpenRow>
-    ensures { result ≡ row_after_end name row }
-{
-    match row {
-        Some(open) if open.name == name => None,
-        other => other,
-    }
-}
-
-/// The row that is worked on after a word of the row of this name is stored.
-fn open_row_after(row: Option<OpenRow>, name: u32, word: u32, value: u64) -> Option<OpenRow>
-    ensures { result ≡ row_after_word name word value row }
+/// A word of the row of this name is stored: the row begins, or ends.
+fn note_word(rows: &mut Vec<OpenRow>, name: u32, word: u32, value: u64)
+    requires room { begins_row word value ≡ true → vec_len rows.old < vec_capacity rows.old }
+    ensures items { rows.new.items ≡ rows_after_word name word value rows.old.items }
+    ensures room { vec_capacity rows.old ≤ vec_capacity rows.new }
 {
     match word {
-        0 if value % 2 == 1 => Some(OpenRow {
-            name,
-            refused: false,
-        }),
-        5 => after_end(row, name),
-        _ => row,
+        0 if value % 2 == 1 => add(
+            rows,
+            OpenRow {
+                name,
+                refused: false,
+            },
+        ),
+        5 => rows.retain(|o| o.name != name),
+        _ => {}
     }
 }
 
@@ -375,13 +377,13 @@ impl Rows for PlainHeap {
                 drawn: drawn as u64,
             });
         }
-        add(&mut self.rows, [0; 6]);
+        add(&mut self.rows, [0; 8]);
         Ok(drawn + 1)
     }
 
     fn store_row(&mut self, name: u32, word: u32, value: u64) {
         self.rows[name as usize - 1][word as usize] = value;
-        self.open_row = open_row_after(self.open_row, name, word, value);
+        note_word(&mut self.open_rows, name, word, value);
     }
 
     fn load_row(&mut self, name: u32, word: u32) -> u64 {

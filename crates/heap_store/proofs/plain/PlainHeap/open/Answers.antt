@@ -15,7 +15,7 @@ pub invariant_of-result-clause-plain : goal.invariant_of-result-clause-plain
 invariant_of-result-clause-plain c = now_plain c
 
 pub invariant_of-result-clause-law : goal.invariant_of-result-clause-law
-invariant_of-result-clause-law c = plain_lawful c.args.nodes c.args.rows _ _ _ (now_plain c) _ _ _
+invariant_of-result-clause-law c = plain_lawful c.args.nodes c.args.rows _ _ _ (now_plain c) _ _ _ (rw c.in-Ok-with_capacity-3.ensures.items refl) (λ some. absurd (omega (arith, some)))
 
 pub returns : goal.returns
-returns c = rw (c.with_fixed_records.ensures.items, c.in-Ok-with_capacity.ensures.items, c.in-Ok-with_capacity-2.ensures.items) refl
+returns c = rw (c.with_fixed_records.ensures.items, c.in-Ok-with_capacity.ensures.items, c.in-Ok-with_capacity-2.ensures.items, c.in-Ok-with_capacity-3.ensures.items) refl

@@ -14,7 +14,7 @@ here c = let h = c.args.self.now in held_is h.capacity h.row_capacity h.nodes.it
 now_plain : (c : After-release) → IsPlain c.args.self.now.capacity c.args.self.now.row_capacity (slice_set c.args.self.now.nodes.items c.args.s.0 (Some (record { rec = c.in-Some.node.rec; state = Done c.args.place c.args.steps c.in-Claimed.given_up }))) (reverse c.release.new.claims.items) c.args.self.now.rows.items
 now_plain c =
     let h = c.args.self.now in
-    rw (c.release.ensures.items) (completed_plain h.capacity h.row_capacity h.nodes.items (reverse h.claims.items) h.rows.items h.plain h.open_row h.refused h.last c.args.s.0 c.in-Some.node.rec c.in-Claimed.given_up (here (goal.at.invariant_of-self-clause-plain c).In-Claimed) c.args.place c.args.steps c.requires.value c.requires.small)
+    rw (c.release.ensures.items) (completed_plain h.capacity h.row_capacity h.nodes.items (reverse h.claims.items) h.rows.items h.plain h.open_rows.items h.refused h.last c.args.s.0 c.in-Some.node.rec c.in-Claimed.given_up (here (goal.at.invariant_of-self-clause-plain c).In-Claimed) c.args.place c.args.steps c.requires.value c.requires.small)
 
 pub index-requires : goal.index-requires
 index-requires c = let h = c.args.self.now in omega (arith, within_held h.capacity h.row_capacity h.nodes.items (reverse h.claims.items) h.rows.items h.plain c.args.s.0 c.requires.held, h.nodes.ok.0)
@@ -40,9 +40,9 @@ pub invariant_of-self-clause-plain : goal.invariant_of-self-clause-plain
 invariant_of-self-clause-plain c = now_plain c
 
 pub invariant_of-self-clause-law : goal.invariant_of-self-clause-law
-invariant_of-self-clause-law c = let h = c.args.self.now in plain_lawful h.capacity h.row_capacity _ _ h.rows.items (now_plain c) h.open_row h.refused h.last
+invariant_of-self-clause-law c = let h = c.args.self.now in plain_lawful h.capacity h.row_capacity _ _ h.rows.items (now_plain c) h.open_rows.items h.refused h.last h.law.open_in h.law.refused
 
 pub returns : goal.returns
 returns c =
     let h = c.args.self.now in
-    rw (c.release.ensures.items) (completed_view h.capacity h.row_capacity h.nodes.items (reverse h.claims.items) h.rows.items h.plain h.open_row h.refused h.last c.args.s.0 c.in-Some.node.rec c.in-Claimed.given_up (here (goal.at.returns c).In-Claimed) c.args.place c.args.steps)
+    rw (c.release.ensures.items) (completed_view h.capacity h.row_capacity h.nodes.items (reverse h.claims.items) h.rows.items h.plain h.open_rows.items h.refused h.last c.args.s.0 c.in-Some.node.rec c.in-Claimed.given_up (here (goal.at.returns c).In-Claimed) c.args.place c.args.steps)

@@ -15,7 +15,7 @@ within c = let h = c.args.self.now in (free_unpublished h.capacity h.row_capacit
 now_plain : (c : After-mark_newest) → IsPlain c.args.self.now.capacity c.args.self.now.row_capacity (slice_set c.args.self.now.nodes.items c.step-place.result.0 c.fresh.result) (reverse c.mark_newest.new.claims.items) c.args.self.now.rows.items
 now_plain c =
     let h = c.args.self.now in
-    put_plain_at h.capacity h.row_capacity h.nodes.items (reverse h.claims.items) h.rows.items h.plain h.open_row h.refused h.last c.args.run.now.next c.step-place.result.0 c.args.rec c.fresh.result c.is_later.result (reverse c.mark_newest.new.claims.items)
+    put_plain_at h.capacity h.row_capacity h.nodes.items (reverse h.claims.items) h.rows.items h.plain h.open_rows.items h.refused h.last c.args.run.now.next c.step-place.result.0 c.args.rec c.fresh.result c.is_later.result (reverse c.mark_newest.new.claims.items)
     c.step-place.ensures.place c.fresh.ensures c.is_later.ensures c.mark_newest.ensures.items (held (goal.at.invariant_of-self-clause-plain c).After-step-place) c.requires.fits
 
 pub index_mut-requires : goal.index_mut-requires
@@ -34,10 +34,10 @@ pub invariant_of-self-clause-plain : goal.invariant_of-self-clause-plain
 invariant_of-self-clause-plain c = now_plain c
 
 pub invariant_of-self-clause-law : goal.invariant_of-self-clause-law
-invariant_of-self-clause-law c = let h = c.args.self.now in plain_lawful h.capacity h.row_capacity _ _ h.rows.items (now_plain c) h.open_row h.refused h.last
+invariant_of-self-clause-law c = let h = c.args.self.now in plain_lawful h.capacity h.row_capacity _ _ h.rows.items (now_plain c) h.open_rows.items h.refused h.last h.law.open_in h.law.refused
 
 pub returns-clause-put : goal.returns-clause-put
 returns-clause-put c =
     let h = c.args.self.now in
-    put_view_at h.capacity h.row_capacity h.nodes.items (reverse h.claims.items) h.rows.items h.plain h.open_row h.refused h.last c.args.run.now.next c.step-place.result.0 c.args.rec c.fresh.result c.is_later.result (reverse c.mark_newest.new.claims.items)
-    c.step-place.ensures.place c.fresh.ensures c.is_later.ensures c.mark_newest.ensures.items (held (goal.at.returns-clause-put c).After-step-place)
+    put_view_at h.capacity h.row_capacity h.nodes.items (reverse h.claims.items) h.rows.items h.plain h.open_rows.items h.refused h.last c.args.run.now.next c.step-place.result.0 c.args.rec c.fresh.result c.is_later.result (reverse c.mark_newest.new.claims.items)
+    c.step-place.ensures.place c.fresh.ensures c.is_later.ensures c.mark_newest.ensures.items (held (goal.at.returns-clause-put c).After-step-place) c.requires.fits
