@@ -1,10 +1,8 @@
--- Fronts and rears of banker's queues.
-use Rattle.std.specs.Prelude.{ℕ, Bool, true, false, ◌||◌}
-use Rattle.lazy_rec.specs.declared.records.Rec.{Rec}
-use Rattle.lazy_rec.specs.declared.records.Rec.TheVariants.{Nil, Cons}
-use Rattle.lazy_rec.specs.declared.records.Sort.TheVariants as sorts
-use Rattle.lazy_rec.specs.Named.{Records, sort_of, same_sort}
-use Rattle.heap_store.specs.World.{holds}
+-- Fronts of banker's queues.
+use Rattle.std.specs.Prelude.{ℕ, Bool, true, ◌||◌}
+use Rattle.lazy_rec.specs.Named.{Records, at_record}
+use Rattle.heap_store.specs.World.{World, recs, holds}
+use Rattle.heap_store.specs.Budget.{bank_family, are_discharged}
 use Rattle.heap_store.specs.Completion.{is_plain}
 use Rattle.heap_store.specs.Lawful.{is_any_bank_rotation}
 
@@ -12,12 +10,6 @@ use Rattle.heap_store.specs.Lawful.{is_any_bank_rotation}
 abbrev pub is_front : Records → ℕ → Bool
 is_front rs p = holds rs p is_any_bank_rotation || is_plain rs p
 
--- a value of a front
-abbrev pub is_cell_or_end : Rec → Bool
-is_cell_or_end Nil = true
-is_cell_or_end (Cons _ _ _) = true
-is_cell_or_end _ = false
-
--- a cell of a list, or its end
-abbrev pub is_list : Rec → Bool
-is_list r = same_sort (sort_of r) sorts.List
+-- all units of the rotation's family are discharged, where the front is a rotation
+abbrev pub is_paid_front : World → ℕ → Bool
+is_paid_front w p = at_record true (λ r. are_discharged w (bank_family r)) (recs w p)

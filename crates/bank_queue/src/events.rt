@@ -1,14 +1,13 @@
 //! The operations of banker's queues, each in one stage.
-ghost use Rattle.std.specs.Prelude.{◌≡◌, ◌+◌, ◌<◌, true, Some};
+ghost use Rattle.std.specs.Prelude.{◌≡◌, ◌+◌, ◌^◌, ◌<◌, true, Some};
 ghost use Rattle.heap_store.specs.World.{recs};
 ghost use Rattle.heap_store.specs.Lawful.{is_any_bank_rotation};
 ghost use Rattle.heap_store.specs.View.{Quiet};
 ghost use Rattle.heap_store.specs.Jobs.{IsJob, EventPrepared, IsEventBuildable, IsEventBuilt};
 ghost use Rattle.bank_queue.specs.Queue.{top_record, places_for, looks_at_front, ends_at, is_end, IsReadyEvent};
 
-use crate::front::{first_cell, is_known};
 use crate::queue::{Top, put_top, read_top};
-use heap_store::{After, Cursor, EventJob, Heap, Prep, Run, Version};
+use heap_store::{After, Cursor, EventJob, Heap, Prep, Run, Version, first_cell, value_place};
 use lazy_rec::{Kind, Op, Rec, Ref, Reply};
 
 /// The most items of one version.
@@ -30,14 +29,15 @@ pub fn prepare_event<H: Heap>(h: &mut H, job: &EventJob, cursor: &mut Cursor) ->
     if !looks(job.op, &top) {
         return ready;
     }
-    if is_known(h, top.front) {
-        ready
-    } else {
-        Prep::Need(top.front)
+    match value_place(h, top.front) {
+        Some(_) => ready,
+        None => Prep::Need(top.front),
     }
 }
 
-/// Does an operation of a queue. What replies `Empty` or `TooLong`, `size` and `head` end at the base's root.
+/// Does an operation of a queue. What replies `Empty` or `TooLong`, `size` and `head` end at the base's root and spend
+/// nothing. A `snoc` spends one credit at most and a `tail` two, which are their dues: as many units does the new top show
+/// first.
 pub fn build_event<H: Heap>(h: &mut H, job: &EventJob, cursor: &Cursor, run: &mut Run) -> After
     requires kind { job.now.base.kind ≡ Kind.Bankq }
     requires build { IsEventBuildable IsReadyEvent (H.view h.old) job.now run.old }
@@ -49,7 +49,7 @@ pub fn build_event<H: Heap>(h: &mut H, job: &EventJob, cursor: &Cursor, run: &mu
         Op::Snoc => snoc(h, job, run),
         Op::Tail => tail(h, job, run),
         Op::Head => head(h, job, run),
-        _ => same(&job.base, Reply::Number(job.base.size)),
+        _ => same(&job.base, Reply::Number(u64::from(job.base.size))),
     }
 }
 
@@ -102,6 +102,15 @@ fn same(base: &Version, reply: Reply) -> After
     }
 }
 
+/// The argument of an event, a number of 64 bits.
+#[inline]
+fn argument(job: &EventJob) -> u64
+    ensures same { result ≡ job.now.arg }
+    ensures small { job.now.arg < 2 ^ 64 }
+{
+    job.arg
+}
+
 fn snoc<H: Heap>(h: &mut H, job: &EventJob, run: &mut Run) -> After
     requires kind { job.now.base.kind ≡ Kind.Bankq }
     requires op { job.now.op ≡ Op.Snoc }
@@ -113,12 +122,13 @@ fn snoc<H: Heap>(h: &mut H, job: &EventJob, run: &mut Run) -> After
     if job.base.size == MOST_ITEMS {
         return same(&job.base, Reply::TooLong);
     }
+    let item = argument(job);
     let top = read_top(h, job.base.root);
     let rear = h.put(
         run,
         Rec::LCons {
             child: false,
-            value: job.arg,
+            value: item,
             rest: top.rear,
         },
     );

@@ -1,5 +1,6 @@
 //! The pending work of banker's queues alone.
 ghost use Rattle.heap_store.specs.Lawful.{is_any_bank_rotation};
+ghost use Rattle.bank_queue.specs.Queue.{nothing_told};
 
 use crate::rotation;
 use heap_store::{Built, Cursor, Heap, Jobs, Prep, Run};
@@ -11,6 +12,8 @@ pub struct BankJobs;
 
 impl Jobs for BankJobs {
     ghost does = { λ _. is_any_bank_rotation };
+
+    ghost told = { λ _. nothing_told };
 
     fn prepare<H: Heap>(&self, h: &mut H, s: Ref, cursor: &mut Cursor) -> Prep {
         let rec = h.read(s);

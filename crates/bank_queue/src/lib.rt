@@ -2,7 +2,6 @@
 #![tactic(auto)]
 
 pub mod events;
-pub mod front;
 pub mod jobs;
 pub mod queue;
 pub mod rotation;

@@ -1,12 +1,13 @@
 //! Tops of banker's queues.
-ghost use Rattle.std.specs.Prelude.{◌≡◌, ◌+◌, ◌<◌, true, Some, [], ◌++◌, reverse};
+ghost use Rattle.std.specs.Prelude.{◌≡◌, ◌+◌, ◌<◌, ◌≤◌, true, Some, [], ◌++◌, reverse};
 ghost use Rattle.lazy_rec.specs.Meaning.{cells, means};
 ghost use Rattle.heap_store.specs.World.{recs, holds};
+ghost use Rattle.heap_store.specs.Values.{items_in};
 ghost use Rattle.heap_store.specs.Lawful.{is_root};
 ghost use Rattle.heap_store.specs.Hand.{IsInHand};
 ghost use Rattle.heap_store.specs.View.{Quiet};
 ghost use Rattle.heap_store.specs.Jobs.{Filled};
-ghost use Rattle.bank_queue.specs.Queue.{top_record, items_in, top_places, IsNearQueue, IsRotatable};
+ghost use Rattle.bank_queue.specs.Queue.{top_record, top_places, top_gain, IsNearQueue, IsRotatable};
 
 use heap_store::{Heap, Run};
 use lazy_rec::{Kind, Rec, Ref};
@@ -33,6 +34,7 @@ pub fn new_queue<H: Heap>(h: &mut H, run: &mut Run) -> Ref
     ensures spent { run.new.next ≡ run.new.end }
     ensures root { holds (recs (H.view h.new).seen) result.0 (is_root (recs (H.view h.new).seen) Kind.Bankq result.0) ≡ true }
     ensures empty { means (recs (H.view h.new).seen) result.0 ≡ [] }
+    ensures credits { (H.view h.old).hand.credits ≤ (H.view h.new).hand.credits }
 {
     h.put(
         run,
@@ -79,15 +81,19 @@ pub(crate) fn read_top<H: Heap>(h: &mut H, root: Ref) -> Top
     }
 }
 
-/// Publishes a top. Where the rear is longer than the front, it is that of a new rotation of both.
+/// Publishes a top. Where the rear is longer than the front, it is that of a new rotation of both. It spends a credit for
+/// each unit of the latest rotation that it shows first (Okasaki's debit law): one more for an item on the rear, and two
+/// for a tail. So by the time of a new rotation all units of the old one are discharged.
 pub(crate) fn put_top<H: Heap>(h: &mut H, top: Top, run: &mut Run) -> Ref
     requires top { IsNearQueue (H.view h.old).seen top run.old.next }
     requires held { IsInHand (H.view h.old).hand run.old }
     requires size { run.old.next + top_places top.lenf top.lenr ≡ run.old.end }
+    requires credits { top_gain (H.view h.old).seen run.old.next top ≤ (H.view h.old).hand.credits }
     ensures filled { Filled (H.view h.old) (H.view h.new) run.old.next run.old.end }
     ensures spent { run.new.next ≡ run.new.end }
     ensures root { holds (recs (H.view h.new).seen) result.0 (is_root (recs (H.view h.new).seen) Kind.Bankq result.0) ≡ true }
     ensures items { means (recs (H.view h.new).seen) result.0 ≡ items_in (cells (recs (H.view h.old).seen) top.front.0 ++ reverse (cells (recs (H.view h.old).seen) top.rear.0)) }
+    ensures credits { (H.view h.old).hand.credits ≤ (H.view h.new).hand.credits + top_gain (H.view h.old).seen run.old.next top }
 {
     if top.lenr > top.lenf {
         return put_rotated(h, top.front, top.lenf, top.rear, run);
@@ -107,15 +113,18 @@ pub(crate) fn put_top<H: Heap>(h: &mut H, top: Top, run: &mut Run) -> Ref
     )
 }
 
-/// Publishes a new rotation of a front of `n` cells and a rear of one more, and its top.
-fn put_rotated<H: Heap>(h: &mut H, front: Ref, n: u32, rear: Ref, run: &mut Run) -> Ref
-    requires lists { IsRotatable (H.view h.old).seen front.0 n rear.0 run.old.next }
+/// Publishes a new rotation of a front of `length` cells, all of whose units are discharged, and a rear of one more; and
+/// its top, which shows the rotation's first unit.
+fn put_rotated<H: Heap>(h: &mut H, front: Ref, length: u32, rear: Ref, run: &mut Run) -> Ref
+    requires lists { IsRotatable (H.view h.old).seen front.0 length rear.0 run.old.next }
     requires held { IsInHand (H.view h.old).hand run.old }
     requires size { run.old.next + 2 ≡ run.old.end }
+    requires credits { 1 ≤ (H.view h.old).hand.credits }
     ensures filled { Filled (H.view h.old) (H.view h.new) run.old.next run.old.end }
     ensures spent { run.new.next ≡ run.new.end }
     ensures root { holds (recs (H.view h.new).seen) result.0 (is_root (recs (H.view h.new).seen) Kind.Bankq result.0) ≡ true }
     ensures items { means (recs (H.view h.new).seen) result.0 ≡ items_in (cells (recs (H.view h.old).seen) front.0 ++ reverse (cells (recs (H.view h.old).seen) rear.0)) }
+    ensures credits { (H.view h.old).hand.credits ≤ (H.view h.new).hand.credits + 1 }
 {
     let origin = run.next();
     let rotation = h.put(
@@ -123,7 +132,7 @@ fn put_rotated<H: Heap>(h: &mut H, front: Ref, n: u32, rear: Ref, run: &mut Run)
         Rec::BankRot {
             xs: front,
             rear,
-            left: n,
+            left: length,
             origin,
             off: 0,
         },
@@ -132,12 +141,12 @@ fn put_rotated<H: Heap>(h: &mut H, front: Ref, n: u32, rear: Ref, run: &mut Run)
         run,
         Rec::BankTop {
             front: rotation,
-            lenf: 2 * n + 1,
+            lenf: 2 * length + 1,
             rear: Ref(1),
             lenr: 0,
             rotated: true,
             origin,
-            n,
+            n: length,
             tails: 0,
         },
     )

@@ -3,10 +3,10 @@ ghost use Rattle.std.specs.Prelude.{◌≡◌, ◌+◌, ◌<◌, true, Some};
 ghost use Rattle.heap_store.specs.World.{recs};
 ghost use Rattle.heap_store.specs.Lawful.{is_any_bank_rotation};
 ghost use Rattle.heap_store.specs.View.{Quiet};
+ghost use Rattle.bank_queue.specs.Queue.{nothing_told};
 ghost use Rattle.heap_store.specs.Jobs.{cursor_fits, Prepared, IsBuildable, IsBuilt};
 
-use crate::front::{first_cell, is_known, list_cell};
-use heap_store::{Built, Cursor, Heap, Prep, Run};
+use heap_store::{Built, Cursor, Heap, Prep, Run, first_cell, list_cell, value_place};
 use lazy_rec::{Rec, Ref};
 
 /// What a rotation needs: the first cell of its front, or nothing where no cell of the front is left. It has no cells to
@@ -17,16 +17,16 @@ pub fn prepare<H: Heap>(rec: &Rec, h: &mut H, s: Ref, cursor: &mut Cursor) -> Pr
     requires cursor { cursor_fits (H.view h.old).seen s.0 cursor.old ≡ true }
     ensures quiet { Quiet (H.view h.old) (H.view h.new) }
     ensures cursor { cursor_fits (H.view h.new).seen s.0 cursor.new ≡ true }
-    ensures answer { Prepared is_any_bank_rotation (H.view h.new).seen s.0 result }
+    ensures answer { Prepared is_any_bank_rotation nothing_told (H.view h.new).seen s.0 result }
 {
     match *rec {
         Rec::BankRot { xs, left, off, .. } => {
             if left == 0 {
-                Prep::Ready { nodes: off + 1 }
-            } else if is_known(h, xs) {
-                Prep::Ready { nodes: 2 }
-            } else {
-                Prep::Need(xs)
+                return Prep::Ready { nodes: off + 1 };
+            }
+            match value_place(h, xs) {
+                Some(_) => Prep::Ready { nodes: 2 },
+                None => Prep::Need(xs),
             }
         }
         _ => unreachable!(),
@@ -38,7 +38,7 @@ pub fn build<H: Heap>(rec: &Rec, h: &mut H, s: Ref, cursor: &Cursor, run: &mut R
     requires rec { recs (H.view h.old).seen s.0 ≡ Some rec.now }
     requires mine { is_any_bank_rotation rec.now ≡ true }
     requires cursor { cursor_fits (H.view h.old).seen s.0 cursor.now ≡ true }
-    requires build { IsBuildable (H.view h.old) s run.old }
+    requires build { IsBuildable nothing_told (H.view h.old) s run.old }
     ensures { IsBuilt (H.view h.old) (H.view h.new) s.0 run.old run.new result.place.0 result.steps }
 {
     match *rec {
@@ -79,7 +79,7 @@ struct Rotation {
 fn build_next<H: Heap>(h: &mut H, s: Ref, of: Rotation, run: &mut Run) -> Built
     requires rec { recs (H.view h.old).seen s.0 ≡ Some (Rec.BankRot of.xs of.rear of.left of.origin of.off) }
     requires left { 0 < of.left }
-    requires build { IsBuildable (H.view h.old) s run.old }
+    requires build { IsBuildable nothing_told (H.view h.old) s run.old }
     ensures { IsBuilt (H.view h.old) (H.view h.new) s.0 run.old run.new result.place.0 result.steps }
 {
     let cell = first_cell(h, of.xs);
@@ -107,7 +107,7 @@ fn build_next<H: Heap>(h: &mut H, s: Ref, of: Rotation, run: &mut Run) -> Built
 fn build_reverse<H: Heap>(h: &mut H, s: Ref, of: Rotation, run: &mut Run) -> Built
     requires rec { recs (H.view h.old).seen s.0 ≡ Some (Rec.BankRot of.xs of.rear of.left of.origin of.off) }
     requires none { of.left ≡ 0 }
-    requires build { IsBuildable (H.view h.old) s run.old }
+    requires build { IsBuildable nothing_told (H.view h.old) s run.old }
     ensures { IsBuilt (H.view h.old) (H.view h.new) s.0 run.old run.new result.place.0 result.steps }
 {
     let count = of.off + 1;

@@ -2,9 +2,12 @@ use Rattle.std.proofs.Common.{◌≡◌, arith, sym, ◌∙◌, Some}
 use Rattle.std.proofs.lemmas.Bool.{true≢false}
 use Rattle.heap_store.specs.World.{recs}
 use Rattle.heap_store.proofs.Steps.{Quiet_trans}
+use Rattle.heap_store.proofs.ReadLaws.{is_there}
+use Rattle.heap_store.proofs.ValueLaws.{value_place_is, place_waits}
 use Rattle.bank_queue.specs.Queue.{top_record}
-use Rattle.bank_queue.proofs.Queues.{OldTop, old_top}
-use Rattle.bank_queue.proofs.Operations.{root_there, JobTop, job_top, ready_event, event_need}
+use Rattle.bank_queue.proofs.Fronts.{front_there}
+use Rattle.bank_queue.proofs.Tops.{OldTop, old_top}
+use Rattle.bank_queue.proofs.QueueJobs.{root_there, JobTop, job_top, ready_event, event_need}
 use Rattle.bank_queue.proofs.events.prepare_event.Goals as goal
 use Rattle.bank_queue.proofs.events.prepare_event.Goals.{After-read_top-top}
 
@@ -24,26 +27,35 @@ later g c = old_top (g.met.H.Heap.lawful c.read_top-top.new.h).world c.args.job.
 pub places-requires : goal.places-requires
 places-requires g c = let k = top g (goal.at.places-requires g c).After-read_top-top in omega (arith, k.most)
 
-pub is_known-requires : goal.is_known-requires
-is_known-requires g c = (later g (goal.at.is_known-requires g c).After-read_top-top).well.front
-
 pub returns-then-not-looks-clause-answer : goal.returns-then-not-looks-clause-answer
 returns-then-not-looks-clause-answer g c =
     let d = goal.at.returns-then-not-looks-clause-answer g c in
-    ready_event (g.met.H.Heap.lawful c.read_top-top.new.h).world c.args.job.now c.requires.kind c.read_top-top.result (here g d.After-read_top-top) c.places.result c.places.ensures (λ h. absurd (true≢false (sym h ∙ (sym c.looks.ensures ∙ c.if-not-looks.true))))
+    ready_event (g.met.H.Heap.lawful c.read_top-top.new.h).world c.args.job.now c.requires.kind c.read_top-top.result (here g d.After-read_top-top) c.requires.job.has c.places.result c.places.ensures (λ h. absurd (true≢false (sym h ∙ (sym c.looks.ensures ∙ c.if-not-looks.true))))
 
-pub returns-then-is_known-clause-quiet : goal.returns-then-is_known-clause-quiet
-returns-then-is_known-clause-quiet g c = Quiet_trans c.read_top-top.ensures.quiet c.is_known.ensures.quiet
+pub value_place-requires : goal.value_place-requires
+value_place-requires g c =
+    let rs = recs (g.H.Heap.view c.read_top-top.new.h).seen in
+    let p = c.read_top-top.result.front.0 in
+    is_there rs p (front_there rs p (later g (goal.at.value_place-requires g c).After-read_top-top).well.front)
 
-pub returns-then-is_known-clause-answer : goal.returns-then-is_known-clause-answer
-returns-then-is_known-clause-answer g c =
-    let d = goal.at.returns-then-is_known-clause-answer g c in
-    ready_event (g.met.H.Heap.lawful c.is_known.new.h).world c.args.job.now c.requires.kind c.read_top-top.result (c.is_known.ensures.quiet.grows.records _ _ (here g d.After-read_top-top)) c.places.result c.places.ensures (λ h. c.is_known.ensures.known c.if-is_known.true)
+pub returns-in-Some-clause-quiet : goal.returns-in-Some-clause-quiet
+returns-in-Some-clause-quiet g c = Quiet_trans c.read_top-top.ensures.quiet c.value_place.ensures.quiet
 
-pub returns-else-is_known-clause-quiet : goal.returns-else-is_known-clause-quiet
-returns-else-is_known-clause-quiet g c = Quiet_trans c.read_top-top.ensures.quiet c.is_known.ensures.quiet
+pub returns-in-Some-clause-answer : goal.returns-in-Some-clause-answer
+returns-in-Some-clause-answer g c =
+    let d = goal.at.returns-in-Some-clause-answer g c in
+    let law = (g.met.H.Heap.lawful c.value_place.new.h).world in
+    let e = c.value_place.ensures.quiet.grows.records _ _ (here g d.After-read_top-top) in
+    ready_event law c.args.job.now c.requires.kind c.read_top-top.result e c.requires.job.has c.places.result c.places.ensures (λ _. (value_place_is law c.read_top-top.result.front.0 c.in-Some.field-0.0 c.in-Some.ensures.place).known)
 
-pub returns-else-is_known-clause-answer : goal.returns-else-is_known-clause-answer
-returns-else-is_known-clause-answer g c =
-    let d = goal.at.returns-else-is_known-clause-answer g c in
-    event_need (g.met.H.Heap.lawful c.is_known.new.h).world c.args.job.now c.requires.kind c.read_top-top.result (c.is_known.ensures.quiet.grows.records _ _ (here g d.After-read_top-top)) (sym c.looks.ensures ∙ c.if-not-looks.false) (c.is_known.ensures.rotation c.if-is_known.false) (c.is_known.ensures.not_done c.if-is_known.false)
+pub returns-in-None-clause-quiet : goal.returns-in-None-clause-quiet
+returns-in-None-clause-quiet g c = Quiet_trans c.read_top-top.ensures.quiet c.value_place.ensures.quiet
+
+pub returns-in-None-clause-answer : goal.returns-in-None-clause-answer
+returns-in-None-clause-answer g c =
+    let d = goal.at.returns-in-None-clause-answer g c in
+    let law = (g.met.H.Heap.lawful c.value_place.new.h).world in
+    let e = c.value_place.ensures.quiet.grows.records _ _ (here g d.After-read_top-top) in
+    let p = c.read_top-top.result.front.0 in
+    let there = front_there (recs (g.H.Heap.view c.value_place.new.h).seen) p (old_top law c.args.job.now.base.root.0 c.read_top-top.result e).well.front in
+    event_need law c.args.job.now c.requires.kind c.read_top-top.result e (sym c.looks.ensures ∙ c.if-not-looks.false) (place_waits (g.H.Heap.view c.value_place.new.h).seen p there c.in-None.ensures.place)

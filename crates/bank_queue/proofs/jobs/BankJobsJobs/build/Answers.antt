@@ -1,4 +1,4 @@
-use Rattle.bank_queue.proofs.Rotations.{buildable_quiet, quiet_built}
+use Rattle.heap_store.proofs.FillLaws.{buildable_quiet, quiet_built}
 use Rattle.bank_queue.proofs.jobs.BankJobsJobs.build.Goals as goal
 
 pub build-requires-clause-rec : goal.build-requires-clause-rec
