@@ -1,19 +1,26 @@
 -- A completion: reserve, build, complete.
-use Rattle.std.proofs.Common.{◌≡◌, ℕ, zero, suc, ◌+◌, ◌<◌, ◌≤◌, true, List, [], ◌∷◌, ◌++◌, drop, length, refl, sym, ap, ◌∙◌, arith}
+use Rattle.std.proofs.Common.{subst, sym, ◌≡◌, ℕ, zero, suc, ◌+◌, ◌-◌, ◌*◌, ◌<◌, ◌≤◌, true, cond, List, [], ◌∷◌, ◌++◌, drop, length, refl, ap, ◌∙◌, arith}
+use Rattle.std.specs.List.{list_all}
 use Rattle.std.proofs.lemmas.Grind.{common_steps}
-use Rattle.heap_store.specs.declared.claims.HeldClaim.{HeldClaim}
+use Rattle.std.proofs.lemmas.Bool.{and_parts}
 use Rattle.heap_store.specs.Span.{Span}
-use Rattle.heap_store.specs.World.{World}
-use Rattle.heap_store.specs.Hand.{Hand, contains, claim_places, holds_claim, places_from, without, without_claim}
+use Rattle.lazy_rec.specs.Named.{Records}
+use Rattle.lazy_rec.specs.Units.{steps}
+use Rattle.heap_store.specs.World.{World, recs, attempts_at, SameAttempts}
+use Rattle.heap_store.specs.Hand.{Hand, contains, claim_places, holds_claim, fresh_claim, is_unbuilt, is_claim_well, places_from, places_of_steps, credits_at, without, hand_reserved, hand_completed}
 use Rattle.heap_store.specs.View.{View, About, IsLawfulView, Reserved, Completed, unforced}
-use Rattle.heap_store.specs.Jobs.{IsReady, IsBuildable, IsBuilt}
+use Rattle.heap_store.specs.Jobs.{Readiness, IsReady, IsBuildable, IsBuilt}
+use Rattle.lazy_rec.specs.declared.states.SuspState.TheVariants as states
+use Rattle.heap_store.proofs.StageLaws.{most_in_steps}
+use Rattle.heap_store.proofs.AttemptLaws.{changed_attempts}
 use Rattle.heap_store.proofs.GrowthLaws.{grows_trans}
 use Rattle.heap_store.proofs.Steps.{SameRows_trans}
 use Rattle.force_engine.specs.declared.stack.Frame.{Frame}
-use Rattle.force_engine.specs.Stacked.{claims_of, places_of, IsStacked, Passed, work}
+use Rattle.force_engine.specs.Stacked.{claims_of, places_of, places_for, claimed_places, hand_with, IsStacked, Passed, work}
 use Rattle.force_engine.specs.Forced.{IsKept}
-use Rattle.force_engine.proofs.Growing.{Rises-grows}
-use Rattle.force_engine.proofs.Giving.{newest_of, claim_places-frames, without-newest}
+use Rattle.force_engine.proofs.Growing.{HeightsRise-grows}
+use Rattle.force_engine.proofs.Means.{places_cons, places_grow, claim_places-frames, claimed_frames, well_frames}
+use Rattle.force_engine.proofs.Giving.{newest_of, without-newest}
 use Rattle.force_engine.proofs.Turns.{alone_on}
 
 -- ---- reserved places
@@ -37,8 +44,11 @@ without-fresh n k (x ∷ xs) below = let ih = without-fresh n k xs in let here =
 
 -- ---- what the calls ask
 
-pub buildable : {old mid : View} {nodes : ℕ} {run : Span} (newest : Frame) (frames : List Frame) → IsLawfulView old → IsStacked old (newest ∷ frames) → IsReady old.seen newest.place.0 nodes → Reserved old mid nodes run → IsBuildable mid newest.place run
-buildable {old} {mid} {nodes} {run} newest frames law s r k =
+steps_most : {told : Readiness} {w : World} {p nodes : ℕ} → IsReady told w p nodes → nodes ≤ places_of_steps (recs w) p
+steps_most {told} {w} {p} {nodes} r = let e = r.here in let m : nodes ≤ 8 * steps r.rec = omega (arith, r.most, most_in_steps r.rec) in rw e m
+
+pub buildable : {told : Readiness} {old mid : View} {nodes : ℕ} {run : Span} (newest : Frame) (frames : List Frame) → IsLawfulView old → IsStacked old (newest ∷ frames) → IsReady told old.seen newest.place.0 nodes → Reserved old mid nodes run → IsBuildable told mid newest.place run
+buildable {told} {old} {mid} {nodes} {run} newest frames law s r k =
     let c : mid.hand.claims ≡ claims_of (newest ∷ frames) = ap (λ (h : Hand). h.claims) k.hand ∙ s.claims in
     let p : mid.hand.reserved ≡ old.hand.reserved ++ places_from run.next nodes = ap (λ (h : Hand). h.reserved) k.hand in
     record {
@@ -52,6 +62,10 @@ buildable {old} {mid} {nodes} {run} newest frames law s r k =
       held = record { each = λ q low high. rw p (contains-append_right old.hand.reserved (places_from run.next nodes) q (contains-places_from run.next nodes q low (omega (arith, k.size)))) };
       newest = rw c refl;
     }
+
+-- the newest claim's steps allow its places
+pub may_reserve : {told : Readiness} {v : View} {nodes : ℕ} (newest : Frame) (frames : List Frame) → IsStacked v (newest ∷ frames) → IsReady told v.seen newest.place.0 nodes → nodes ≤ v.hand.allowance
+may_reserve {told} {v} newest frames s r = omega (arith, s.room, steps_most r, claimed_frames v (newest ∷ frames) s.claims, places_cons (recs v.seen) newest.place.0 (places_of frames))
 
 -- the claims in hand at the end of a build
 places_at_end : {mid built : View} {s place steps : ℕ} {run after : Span} (newest : Frame) (frames : List Frame) → mid.hand.claims ≡ claims_of (newest ∷ frames) → IsBuilt mid built s run after place steps → claim_places built.hand.claims ≡ places_of (newest ∷ frames)
@@ -71,8 +85,19 @@ pub record Finished (old new : View) (frames : List Frame) (p place : ℕ) : Typ
   pub passed : Passed old new
   pub falls : work new < work old
 
-pub finished : {old mid built new : View} {nodes place steps : ℕ} {run after : Span} (newest : Frame) (frames : List Frame) → IsLawfulView old → IsLawfulView mid → IsStacked old (newest ∷ frames) → Reserved old mid nodes run → IsBuilt mid built newest.place.0 run after place steps → Completed built new newest.place.0 place steps → Finished old new frames newest.place.0 place
-finished {old} {mid} {built} {new} {nodes} {place} {steps} {run} newest frames law law' s k b m =
+-- what a completion leaves of the hand
+whole : (old mid built new : Hand) (p : ℕ) (run : Span) (nodes : ℕ) (rs : Records) → mid ≡ hand_reserved old run.next nodes → built ≡ record mid { reserved = without run.next run.end mid.reserved; claims = built.claims; credits = built.credits } → new ≡ hand_completed rs built p
+    → without run.next run.end (old.reserved ++ places_from run.next nodes) ≡ old.reserved → new ≡ hand_with old new
+whole old mid built new p run nodes rs e f g kept =
+    let r : new.reserved ≡ old.reserved = ap (λ (h : Hand). h.reserved) g ∙ (ap (λ (h : Hand). h.reserved) f ∙ (ap (λ (h : Hand). without run.next run.end h.reserved) e ∙ kept)) in
+    let n : new.names ≡ old.names = ap (λ (h : Hand). h.names) g ∙ (ap (λ (h : Hand). h.names) f ∙ ap (λ (h : Hand). h.names) e) in
+    let o : new.open_rows ≡ old.open_rows = ap (λ (h : Hand). h.open_rows) g ∙ (ap (λ (h : Hand). h.open_rows) f ∙ ap (λ (h : Hand). h.open_rows) e) in
+    let v : new.vain ≡ old.vain = ap (λ (h : Hand). h.vain) g ∙ (ap (λ (h : Hand). h.vain) f ∙ ap (λ (h : Hand). h.vain) e) in
+    let i : new.mine ≡ old.mine = ap (λ (h : Hand). h.mine) g ∙ (ap (λ (h : Hand). h.mine) f ∙ ap (λ (h : Hand). h.mine) e) in
+    rw (← r, ← n, ← o, ← i, ← v) refl
+
+pub finished : {told : Readiness} {old mid built new : View} {nodes place steps : ℕ} {run after : Span} (newest : Frame) (frames : List Frame) → IsLawfulView old → IsLawfulView mid → IsStacked old (newest ∷ frames) → IsReady told old.seen newest.place.0 nodes → Reserved old mid nodes run → IsBuilt mid built newest.place.0 run after place steps → Completed built new newest.place.0 place steps → Finished old new frames newest.place.0 place
+finished {told} {old} {mid} {built} {new} {nodes} {place} {steps} {run} newest frames law law' s r k b m =
     let f = b.filled in
     let grows = grows_trans k.grows (grows_trans f.grows m.grows) in
     let about : new.about ≡ old.about = m.about ∙ (f.about ∙ k.about) in
@@ -83,9 +108,13 @@ finished {old} {mid} {built} {new} {nodes} {place} {steps} {run} newest frames l
     let one = newest_of newest frames law s.claims in
     let claims : new.hand.claims ≡ claims_of frames = ap (λ (h : Hand). h.claims) m.hand ∙ without-newest built.hand.claims newest frames (places_at_end newest frames c b) older one.other in
     let kept_places : without run.next run.end (old.hand.reserved ++ places_from run.next nodes) ≡ old.hand.reserved = rw (← k.size) (without-fresh run.next nodes old.hand.reserved k.unheld) in
-    let built_hand : built.hand ≡ record old.hand { claims = built.hand.claims } = f.hand ∙ ap (λ (h : Hand). record h { reserved = without run.next run.end h.reserved; claims = built.hand.claims }) k.hand ∙ ap (λ ps. record old.hand { reserved = ps; claims = built.hand.claims }) kept_places in
-    let left : List HeldClaim = without_claim newest.place.0 built.hand.claims in
-    let new_hand : new.hand ≡ record old.hand { claims = new.hand.claims } = m.hand ∙ ap (λ (h : Hand). record h { claims = left }) built_hand ∙ ap (λ cs. record old.hand { claims = cs }) (sym (ap (λ (h : Hand). h.claims) m.hand)) in
+    let new_hand : new.hand ≡ hand_with old.hand new.hand = whole old.hand mid.hand built.hand new.hand newest.place.0 run nodes (recs built.seen) k.hand f.hand m.hand kept_places in
+    let a : new.hand.allowance ≡ old.hand.allowance - nodes = ap (λ (h : Hand). h.allowance) m.hand ∙ (ap (λ (h : Hand). h.allowance) f.hand ∙ ap (λ (h : Hand). h.allowance) k.hand) in
+    let brought : built.hand.credits ≤ new.hand.credits = (let q : new.hand.credits ≡ built.hand.credits + cond (is_unbuilt built.hand newest.place.0) (credits_at (recs built.seen) newest.place.0) 0 = ap (λ (h : Hand). h.credits) m.hand in omega (arith, q)) in
+    let same_credits : mid.hand.credits ≡ old.hand.credits = ap (λ (h : Hand). h.credits) k.hand in
+    let all : claimed_places old ≡ places_of_steps (recs old.seen) newest.place.0 + places_for (recs old.seen) (places_of frames) = claimed_frames old (newest ∷ frames) s.claims ∙ places_cons (recs old.seen) newest.place.0 (places_of frames) in
+    let rest : claimed_places new ≡ places_for (recs old.seen) (places_of frames) = claimed_frames new frames claims ∙ places_grow grows frames (and_parts (is_claim_well old.seen (fresh_claim newest.place)) (list_all (is_claim_well old.seen) (claims_of frames)) (well_frames (newest ∷ frames) law s.claims)).1 in
+    let fewest = steps_most r in
     let d1 = k.alone s.alone in
     let d2 = f.alone alone_mid in
     let d3 = m.alone alone_built in
@@ -99,13 +128,15 @@ finished {old} {mid} {built} {new} {nodes} {place} {steps} {run} newest frames l
     let one_less : suc (length new.hand.claims) ≡ length old.hand.claims = rw (claims, s.claims) refl in
     record {
       kept = record { steps = steps; done = m.done };
-      stacked = record { alone = alone_on old new about s.alone; claims = claims; rises = Rises-grows grows frames s.rises.2 };
+      stacked = record { alone = alone_on old new about s.alone; claims = claims; rises = HeightsRise-grows law.world grows frames s.rises.2; room = omega (arith, a, all, rest, fewest, s.room) };
       passed = record {
         grows = grows;
         hand = new_hand;
+        means = record { credits = omega (arith, same_credits, b.credits, brought); allowance = omega (arith, a, all, rest, fewest, s.room) };
         refusals = m.refusals ∙ (f.refusals ∙ k.refusals);
         about = about;
         rows = SameRows_trans (record { rows = ap (λ (w : World). w.rows) d1.0; named = d1.2 }) (SameRows_trans d2.0 d3.0);
+        attempts = λ z. (let t = m.shown alone_built in let last : SameAttempts built.seen new.seen = subst (SameAttempts built.seen) (sym t.3) (changed_attempts built.seen newest.place.0 t.0 (states.Done (record { 0 = place }) steps t.1) (states.Claimed t.1) t.2 refl) in last z ∙ (d2.3 z ∙ ap (λ w. attempts_at w z) d1.0));
       };
       falls = rw (capacity, drawn) (omega arith);
     }

@@ -1,58 +1,38 @@
 -- What growth keeps of the claims of a force.
-use Rattle.std.proofs.Common.{◌≡◌, ℕ, zero, suc, ◌≤◌, Bool, true, ◌&&◌, List, [], ◌∷◌, Option, Some, None, refl, sym, arith}
+use Rattle.std.proofs.Common.{◌≡◌, ℕ, zero, suc, Bool, true, ◌&&◌, List, [], ◌∷◌, Option, Some, None, refl, sym}
 use Rattle.std.specs.Prelude.{option_and_then, eqb}
 use Rattle.std.proofs.lemmas.Bool.{true≢false, and_parts}
 use Rattle.lazy_rec.specs.declared.records.Rec.{Rec}
-use Rattle.lazy_rec.specs.declared.states.SuspState.{SuspState}
 use Rattle.lazy_rec.specs.Named.{is_pending}
 use Rattle.lazy_rec.specs.Tests.{is_some_and}
 use Rattle.heap_store.specs.declared.jobs.Cursor.{Cursor}
-use Rattle.heap_store.specs.World.{World, recs, holds, state_at, value_at, is_published}
+use Rattle.heap_store.specs.World.{World, recs, holds, value_at, is_published}
 use Rattle.heap_store.specs.Growth.{Grows}
-use Rattle.heap_store.specs.Lawful.{walk, rest_of}
+use Rattle.heap_store.specs.Lawful.{IsLawful, walk, rest_of, height}
 use Rattle.heap_store.specs.Jobs.{IsWork, cursor_fits, cursor_fits_record, first_cells}
-use Rattle.heap_store.proofs.GrowthLaws.{at_true, state_there, rec_there, value_up, holds_up, or_up, same_up}
+use Rattle.heap_store.proofs.LawfulLaws.{lawful_names}
+use Rattle.heap_store.proofs.RecordLaws.{height_kept}
+use Rattle.heap_store.proofs.GrowthLaws.{at_true, value_up, holds_up, or_up, same_up}
 use Rattle.force_engine.specs.declared.stack.Frame.{Frame}
-use Rattle.force_engine.specs.Stacked.{origin_at, Rises}
-use Rattle.force_engine.specs.Forced.{attempts_of, Rose}
+use Rattle.force_engine.specs.Stacked.{HeightsRise}
 
--- ---- attempts
-
-pub attempts_grow : {a b : World} → Grows a b → (p : ℕ) → attempts_of (state_at a p) ≤ attempts_of (state_at b p)
-attempts_grow {a} {b} g p = go (state_at a p) refl
-  where
-    go : (o : Option SuspState) → state_at a p ≡ o → attempts_of o ≤ attempts_of (state_at b p)
-    go None e = omega arith
-    go (Some s) e =
-        let r = rec_there a p s e in
-        let t = state_there b p r.0 (g.records p r.0 r.1) in
-        rw t.1 (g.given_up p s t.0 e t.1)
-
-pub Rose-before : {a b : World} (c : World) (p : ℕ) → Grows a b → Rose b c p → Rose a c p
-Rose-before c p g r = omega (arith, attempts_grow g p)
-
-pub Rose-after : (a : World) {b c : World} (p : ℕ) → Rose a b p → Grows b c → Rose a c p
-Rose-after a p r g = omega (arith, attempts_grow g p)
-
--- ---- origins
+-- ---- heights
 
 pub published : (w : World) (p : ℕ) (r : Rec) → recs w p ≡ Some r → is_published (recs w) p ≡ true
 published w p r e = rw e refl
 
-pub origin_at-grows : {a b : World} → Grows a b → (p : ℕ) → is_published (recs a) p ≡ true → origin_at b p ≡ origin_at a p
-origin_at-grows {a} {b} g p h =
+pub height-grows : {a b : World} → IsLawful a → Grows a b → (p : ℕ) → is_published (recs a) p ≡ true → height (recs b) p ≡ height (recs a) p
+height-grows {a} {b} law g p h =
     let r = at_true (λ _. true) (recs a p) h in
-    let e = r.1 in
-    let e' = g.records p r.0 e in
-    rw (e, e') refl
+    sym (height_kept (recs a) (recs b) (lawful_names law) g.records p (r.0, r.1))
 
-pub Rises-grows : {a b : World} → Grows a b → (fs : List Frame) → Rises a fs → Rises b fs
-Rises-grows g [] h = tt
-Rises-grows {a} {b} g (f ∷ []) h = (holds_up a b g f.place.0 _ _ (λ r. same_up) h.0, tt, tt)
-Rises-grows {a} {b} g (f ∷ f' ∷ fs) h =
-    let e = origin_at-grows g f.place.0 h.0 in
-    let e' = origin_at-grows g f'.place.0 h.2.0 in
-    (holds_up a b g f.place.0 _ _ (λ r. same_up) h.0, rw (e, e') h.1, Rises-grows g (f' ∷ fs) h.2)
+pub HeightsRise-grows : {a b : World} → IsLawful a → Grows a b → (fs : List Frame) → HeightsRise a fs → HeightsRise b fs
+HeightsRise-grows law g [] h = tt
+HeightsRise-grows {a} {b} law g (f ∷ []) h = (holds_up a b g f.place.0 _ _ (λ r. same_up) h.0, tt, tt)
+HeightsRise-grows {a} {b} law g (f ∷ f' ∷ fs) h =
+    let e = height-grows law g f.place.0 h.0 in
+    let e' = height-grows law g f'.place.0 h.2.0 in
+    (holds_up a b g f.place.0 _ _ (λ r. same_up) h.0, rw (e, e') h.1, HeightsRise-grows law g (f' ∷ fs) h.2)
 
 -- ---- cursors
 

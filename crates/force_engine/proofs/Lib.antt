@@ -1,4 +1,5 @@
 pub mod Growing
+pub mod Means
 pub mod Giving
 pub mod Turns
 pub mod Finish

@@ -1,57 +1,52 @@
 -- How a force begins and ends.
-use Rattle.std.proofs.Common.{◌≡◌, ℕ, Bool, true, not, ◌||◌, [], ◌∷◌, Option, Some, None, refl, sym, ap, ◌∙◌}
-use Rattle.std.specs.Prelude.{Result, Ok, Err, IfErr, OnOk, OnErr, option_and_then}
-use Rattle.std.proofs.lemmas.Bool.{true≢false, and_from}
+use Rattle.std.proofs.Common.{◌≡◌, ℕ, arith, Bool, true, not, ◌&&◌, ◌||◌, [], ◌∷◌, Option, Some, None, refl, sym, ap, ◌∙◌}
+use Rattle.std.specs.Prelude.{Result, Ok, Err, IfErr, OnOk, OnErr}
+use Rattle.std.proofs.lemmas.Bool.{and_from, and_parts}
 use Rattle.lazy_rec.specs.declared.places.Ref.{Ref}
 use Rattle.lazy_rec.specs.declared.records.Rec.{Rec}
-use Rattle.lazy_rec.specs.declared.states.SuspState.{SuspState}
-use Rattle.lazy_rec.specs.declared.states.SuspState.TheVariants.{Unforced, Claimed, Done}
 use Rattle.lazy_rec.specs.Named.{is_pending}
-use Rattle.lazy_rec.specs.States.{is_claimed, kept}
-use Rattle.lazy_rec.specs.Tests.{is_some_and}
-use Rattle.heap_store.specs.declared.nodes.Node.{Node}
-use Rattle.heap_store.specs.World.{World, recs, node_at, done_at, is_claimed_at}
-use Rattle.heap_store.specs.View.{View, IsLawfulView, SameRows, Quiet, IsWon}
+use Rattle.heap_store.specs.World.{World, recs, done_at, is_claimed_at, is_published}
+use Rattle.heap_store.specs.Budget.{is_funded, is_funded_at}
+use Rattle.heap_store.specs.Hand.{Hand}
+use Rattle.heap_store.specs.View.{View, IsLawfulView, Quiet, IsWon}
 use Rattle.heap_store.specs.Jobs.{IsWork}
 use Rattle.heap_store.proofs.GrowthLaws.{grows_trans, done_grows}
 use Rattle.force_engine.specs.declared.stack.Frame.{Frame}
 use Rattle.force_engine.specs.declared.solo.GiveUp.{GiveUp}
-use Rattle.force_engine.specs.Stacked.{claims_of, Passed}
+use Rattle.force_engine.specs.Stacked.{claims_of, claimed_places, IsStacked, KeepsMeans, Passed}
 use Rattle.force_engine.specs.Forced.{IsForcible, IsUndone, Forced, IsGivenUp}
 use Rattle.force_engine.proofs.Giving.{newest_of}
-use Rattle.force_engine.proofs.Turns.{alone_on, Passed_trans, gave_up_later}
+use Rattle.force_engine.proofs.Means.{claimed_not_done, claimed_frames, idle_allowance, means_trans}
+use Rattle.force_engine.proofs.Turns.{alone_on, Opened, opened, Passed_trans, gave_up_later}
+
+forcible_parts : (does : Rec → Bool) (w : World) (s : ℕ) (r : Rec) → IsForcible does w s → recs w s ≡ Some r → is_pending r ≡ true → (does r ≡ true) × (is_funded w s r ≡ true)
+forcible_parts does w s r h e p =
+    let k : not (is_pending r) || (does r && is_funded w s r) ≡ true = rw e at h in
+    let d : does r && is_funded w s r ≡ true = rw p at k in
+    and_parts (does r) (is_funded w s r) d
 
 pub forcible_work : (does : Rec → Bool) (w : World) (s : ℕ) (r : Rec) → IsForcible does w s → recs w s ≡ Some r → is_pending r ≡ true → IsWork does w s
-forcible_work does w s r h e p =
-    let k : not (is_pending r) || does r ≡ true = rw e at h in
-    let d : does r ≡ true = rw p at k in
-    rw e (and_from (is_pending r) (does r) p d)
+forcible_work does w s r h e p = rw e (and_from (is_pending r) (does r) p (forcible_parts does w s r h e p).0)
 
-claimed_not_done : (w : World) (p : ℕ) → is_claimed_at w p ≡ true → done_at w p ≡ None
-claimed_not_done w p h = go (node_at w p) h
-  where
-    in_state : (s : SuspState) → is_claimed s ≡ true → kept s ≡ None
-    in_state (Unforced g) k = absurd (true≢false (sym k))
-    in_state (Claimed g) k = refl
-    in_state (Done place steps g) k = absurd (true≢false (sym k))
-
-    go : (o : Option Node) → is_some_and (λ (n : Node). is_claimed n.state) o ≡ true → option_and_then (λ (n : Node). kept n.state) o ≡ None
-    go None k = refl
-    go (Some n) k = in_state n.state k
+pub forcible_funded : (does : Rec → Bool) (w : World) (s : ℕ) (r : Rec) → IsForcible does w s → recs w s ≡ Some r → is_pending r ≡ true → is_funded_at w s ≡ true
+forcible_funded does w s r h e p = rw e (forcible_parts does w s r h e p).1
 
 -- a claim was won after a read
 module _ (v w x : View) (s : Ref) (alone : v.about.alone ≡ true) (idle : v.hand.claims ≡ []) (q : Quiet v w) (won : IsWon w x s) where
-  pub begun : Passed v x
-  begun =
+  none : IsStacked w []
+  none =
+      let e : w.hand.claims ≡ [] = ap (λ (h : Hand). h.claims) q.hand ∙ idle in
+      let no_places : claimed_places w ≡ 0 = claimed_frames w [] e in
+      record { alone = alone_on v w q.about alone; claims = e; rises = tt; room = omega (arith, no_places) }
+
+  -- the first claim
+  pub first_claim : IsLawfulView w → is_published (recs w.seen) s.0 ≡ true → (f : Frame) → f.place ≡ s → Opened w x (f ∷ [])
+  first_claim law there f same = opened f law none (rw same there) tt (rw same won)
+
+  pub begun : IsLawfulView w → is_published (recs w.seen) s.0 ≡ true → (f : Frame) → f.place ≡ s → Passed v x
+  begun law there f same =
       let e = q.alone alone in
-      let rows : SameRows w x = (won.alone (alone_on v w q.about alone)).0 in
-      record {
-        grows = grows_trans q.grows won.grows;
-        hand = rw (won.hand, q.hand) refl;
-        refusals = won.refusals ∙ q.refusals;
-        about = won.about ∙ q.about;
-        rows = record { rows = rows.rows ∙ ap (λ (z : View). z.seen.rows) e; named = rows.named ∙ ap (λ (z : View). z.named) e };
-      }
+      rw e at (first_claim law there f same).passed
 
   -- it was not done before
   pub undone : (r : Rec) → IsLawfulView x → recs v.seen s.0 ≡ Some r → is_pending r ≡ true → (f : Frame) → f.place ≡ s → IsUndone v.seen s.0
@@ -75,12 +70,20 @@ forced {v} {x} y (Ok place) idle p q i =
     let k = Passed_trans p q in
     record {
       grows = k.grows;
-      hand = k.hand ∙ ap (λ cs. record v.hand { claims = cs }) (i ∙ sym idle);
+      hand = k.hand;
       refusals = k.refusals;
       about = k.about;
-      rows = k.rows;
+      rows = λ _. k.rows;
+      attempts = λ _. k.attempts;
+      claims = i ∙ sym idle;
+      credits = k.means.credits;
+      allowance = idle_allowance idle k.means;
     }
 forced y (Err cause) idle p q i = tt
+
+pub kept_means : {v x : View} (y : View) (s : ℕ) (r : Result Ref GiveUp) → Passed v x → OnOk r (Passed x y) → IfErr r (λ cause. IsGivenUp x y s cause) → KeepsMeans v y
+kept_means y s (Ok place) p q g = means_trans p.means q.means
+kept_means y s (Err cause) p q g = means_trans p.means g.gave_up.means
 
 pub on_err : {P : Type 0} (r : Result Ref GiveUp) → P → OnErr r P
 on_err (Ok place) p = tt

@@ -2,25 +2,30 @@
 ghost use Rattle.std.specs.Prelude.{◌≡◌, ℕ, ◌+◌, ◌<◌, ◌≤◌, true, false, List, [], ◌∷◌, ◌++◌, Some, None, reverse, IfOk, IfErr, OnOk, OnErr};
 ghost use Rattle.lazy_rec.specs.Named.{is_pending};
 ghost use Rattle.heap_store.specs.World.{recs, holds, done_at};
+ghost use Rattle.heap_store.specs.Lawful.{height};
 ghost use Rattle.heap_store.specs.Jobs.{IsWork, IsReady, cursor_fits};
-ghost use Rattle.force_engine.specs.Stacked.{claims_of, places_of, origin_at, IsStacked, Passed, work};
+ghost use Rattle.heap_store.specs.Budget.{is_funded_at};
+ghost use Rattle.force_engine.specs.Stacked.{claims_of, places_of, claimed_places, IsStacked, Passed, work};
 ghost use Rattle.force_engine.specs.Forced.{IsForcible, IsUndone, IsKept, Forced, GivenBack, GaveUp, IsGivenUp};
 
 use crate::stack::{Frame, Stack};
 use heap_store::{Claim, Claims, Cursor, Full, Heap, Jobs, Prep};
 use lazy_rec::Ref;
+use thiserror::Error;
 
 /// Why a force gave up: a reserve was refused, with its numbers, or memory for the stack couldn't be had.
-#[derive(Clone, Copy, Debug, PartialEq, Eq)]
+#[derive(Clone, Copy, Debug, PartialEq, Eq, Error)]
 pub enum GiveUp {
+    #[error(transparent)]
     Full(Full),
+    #[error("out of memory")]
     NoMemory,
 }
 
 /// Gives every claim back.
 fn give_back<C: Claims>(heap: &mut C, stack: &mut Stack, newest: Frame)
-    requires alone { (C.view heap.old).about.alone ≡ true }
     requires claims { (C.view heap.old).hand.claims ≡ claims_of (newest ∷ reverse stack.old) }
+    requires room { claimed_places (C.view heap.old) ≤ (C.view heap.old).hand.allowance }
     ensures back { GivenBack (C.view heap.old) (C.view heap.new) (places_of (newest ∷ reverse stack.old)) }
     ensures emptied { stack.new ≡ [] }
 {
@@ -39,8 +44,9 @@ fn open_need<C: Claims>(
 ) -> Result<Frame, GiveUp>
     requires stacked { IsStacked (C.view heap.old) (newest ∷ reverse stack.old) }
     requires pending { holds (recs (C.view heap.old).seen) t.0 is_pending ≡ true }
-    requires lower { origin_at (C.view heap.old).seen t.0 < origin_at (C.view heap.old).seen newest.place.0 }
+    requires lower { height (recs (C.view heap.old).seen) t.0 < height (recs (C.view heap.old).seen) newest.place.0 }
     requires not_done { done_at (C.view heap.old).seen t.0 ≡ None }
+    requires funded { is_funded_at (C.view heap.old).seen t.0 ≡ true }
     ensures opened { IfOk result (λ need. (need.place ≡ t) × (need.cursor.passed ≡ 0)) }
     ensures waits { IfOk result (λ _. stack.new ≡ stack.old ++ newest ∷ []) }
     ensures stacked { IfOk result (λ need. IsStacked (C.view heap.new) (need ∷ reverse stack.new)) }
@@ -77,7 +83,7 @@ fn finish<C: Claims, J: Jobs>(
     requires stacked { IsStacked (C.view heap.old) (newest ∷ reverse stack.old) }
     requires work { IsWork (J.does jobs.now) (C.view heap.old).seen newest.place.0 }
     requires cursor { cursor_fits (C.view heap.old).seen newest.place.0 newest.cursor ≡ true }
-    requires ready { IsReady (C.view heap.old).seen newest.place.0 nodes }
+    requires ready { IsReady (J.told jobs.now) (C.view heap.old).seen newest.place.0 nodes }
     ensures kept { IfOk result (λ place. IsKept (C.view heap.new).seen newest.place.0 place.0) }
     ensures waiting { IfOk result (λ _. stack.new ≡ stack.old) }
     ensures stacked { IfOk result (λ _. IsStacked (C.view heap.new) (reverse stack.new)) }
@@ -155,6 +161,10 @@ pub fn force_solo<C: Claims, J: Jobs>(
 
     ensures idle { (C.view heap.new).hand.claims ≡ [] }
     ensures empty { stack.new ≡ [] }
+
+    // Whatever the answer, what the hand may spend and reserve is no less than before.
+    ensures credits { (C.view heap.old).hand.credits ≤ (C.view heap.new).hand.credits }
+    ensures allowance { (C.view heap.old).hand.allowance ≤ (C.view heap.new).hand.allowance }
 {
     if !heap.read(s).is_pending() {
         return Ok(s);

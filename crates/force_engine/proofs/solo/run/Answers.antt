@@ -1,12 +1,12 @@
 use Rattle.std.proofs.Common.{◌∙◌, sym}
 use Rattle.std.proofs.lemmas.Result.{err_from_is_err_and}
 use Rattle.force_engine.proofs.Turns.{Passed_trans}
-use Rattle.force_engine.proofs.Running.{Running, running_looked, running_opened, running_popped, running_refused}
+use Rattle.force_engine.proofs.Running.{IsForcing, running_looked, running_opened, running_popped, running_refused, need_funded}
 use Rattle.force_engine.proofs.solo.run.Goals as goal
 use Rattle.force_engine.proofs.solo.run.Goals.{After-prepare}
 
 -- the turn after its prepare
-looked : (g : _) (c : After-prepare g) → Running (g.J.Jobs.does c.args.jobs.now) (g.C.Heap.view c.args.heap.now) (g.C.Heap.view c.prepare.new.h) c.args.first.place c.loop-t.stack (record c.loop-t.newest { cursor = c.prepare.new.cursor })
+looked : (g : _) (c : After-prepare g) → IsForcing (g.J.Jobs.does c.args.jobs.now) (g.C.Heap.view c.args.heap.now) (g.C.Heap.view c.prepare.new.h) c.args.first.place c.loop-t.stack (record c.loop-t.newest { cursor = c.prepare.new.cursor })
 looked g c = running_looked c.loop-t.stack c.loop-t.newest c.prepare.new.cursor c.loop-t.invariant c.prepare.ensures.quiet c.prepare.ensures.cursor
 
 pub returns-in_err-newest-in-Need-clause-gave_up : goal.returns-in_err-newest-in-Need-clause-gave_up
@@ -36,3 +36,12 @@ loop-t-preserved g c =
 pub returns-in-None-clause-passed : goal.returns-in-None-clause-passed
 returns-in-None-clause-passed g c =
     Passed_trans (looked g (goal.at.returns-in-None-clause-passed g c).After-prepare).passed c.in_ok-place-in-Ready.ensures.passed
+
+pub open_need-requires-clause-stacked : goal.open_need-requires-clause-stacked
+open_need-requires-clause-stacked g c = (looked g (goal.at.open_need-requires-clause-stacked g c).After-prepare).stacked
+
+pub open_need-requires-clause-funded : goal.open_need-requires-clause-funded
+open_need-requires-clause-funded g c = need_funded c.in-Need.t.0 (g.met.C.Heap.lawful c.prepare.new.h) (looked g (goal.at.open_need-requires-clause-funded g c).After-prepare) c.in-Need.ensures.answer
+
+pub finish-requires-clause-stacked : goal.finish-requires-clause-stacked
+finish-requires-clause-stacked g c = (looked g (goal.at.finish-requires-clause-stacked g c).After-prepare).stacked
