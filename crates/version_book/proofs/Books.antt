@@ -1,100 +1,87 @@
 -- Events that are run in order: what holds after so many of them, and the book in the end.
-use Rattle.std.proofs.Common.{◌≡◌, ℕ, zero, suc, ◌+◌, ◌/◌, ◌<◌, ◌≤◌, eqb, ltb, Bool, true, false, cond, ◌&&◌, ◌||◌, Option, Some, None, List, [], ◌∷◌, length, refl, sym, ap, ◌∙◌, arith, subst, ⊎_elim}
+use mathlib.Core.Path.{fun_ext}
+use Rattle.std.proofs.Common.{◌≡◌, ℕ, zero, suc, ◌+◌, ◌^◌, ◌<◌, ◌≤◌, Bool, true, false, ◌&&◌, Option, Some, None, List, [], ◌∷◌, length, refl, sym, ap, ◌∙◌, arith, subst, ⊎_elim}
 use Rattle.std.specs.Prelude.{option_map}
 use Rattle.std.specs.List.{list_all}
-use Rattle.std.proofs.lemmas.Bool.{and_parts, ltb-true, eqb-true, cases_eq, cases_lt}
+use Rattle.std.proofs.lemmas.Option.{slice_get_past}
+use Rattle.std.proofs.lemmas.Bool.{and_parts, cases_eq, cases_lt, lt-ltb}
 use Rattle.lazy_rec.specs.declared.events.Kind.{Kind}
-use Rattle.lazy_rec.specs.declared.events.Op.{Op}
 use Rattle.lazy_rec.specs.declared.events.Event.{Event}
-use Rattle.lazy_rec.specs.Tests.{is_some_and}
-use Rattle.lazy_rec.specs.ByPlace.{below, by_place}
-use Rattle.lazy_rec.specs.Kinds.{bases, bases_of, uses_base, uses_other, uses_argument, belongs, same_kind, is_trim}
-use Rattle.lazy_rec.specs.History.{Events, event_of, kind_of, kind_made, new_kind, has_smaller_bases, is_of_its_kind, IsScript}
+use Rattle.lazy_rec.specs.Tests.{is_some_and, implies}
+use Rattle.lazy_rec.specs.Kinds.{bases, belongs, same_kind, is_split}
+use Rattle.lazy_rec.specs.History.{is_second, event_name, event_of, kind_of, new_kind, is_smaller, has_smaller_bases, IsScript}
+use Rattle.dues.specs.Rooms.{room}
 use Rattle.heap_store.specs.declared.plain.PlainHeap.{PlainHeap}
-use Rattle.heap_store.specs.Rows.{Row, full, word, words_at, row_of, row_with, row_at, is_ended, is_ended_at, events_of, op_of_number}
+use Rattle.heap_store.specs.Rows.{Row, Ending, full, is_full, row_at, is_ended, is_ended_at, events_of}
 use Rattle.heap_store.specs.View.{View, About, IsLawfulView}
 use Rattle.heap_store.specs.Plain.{no_words}
 use Rattle.heap_store.specs.Opened.{view_of, opened_view}
+use Rattle.std.specs.Prelude.{option_and_then}
+use Rattle.heap_store.specs.World.{World}
+use Rattle.heap_store.specs.Growth.{Grows, begun_of}
+use Rattle.heap_store.specs.Legal.{IsLegal}
+use Rattle.heap_store.specs.Budget.{direct_at, room_of}
+use Rattle.heap_store.specs.Causes.{HasCause}
+use Rattle.heap_store.proofs.CauseLaws.{cause_kept}
+use Rattle.heap_store.proofs.RoomLaws.{quiet_all, closed_steps, closed_places}
 use Rattle.heap_store.proofs.PlainLists.{length-filled}
-use Rattle.heap_store.proofs.HistoryLaws.{kind_is}
+use Rattle.lazy_rec.proofs.HistoryLaws.{smaller-lt, smaller-pos, base-low, stands, kind_is, kind_of_agree}
 use Rattle.heap_store.proofs.ShowLaws.{one_value}
-use Rattle.version_book.specs.Closed.{AreQueues, IsBook, IsWhole}
+use Rattle.version_book.specs.Closed.{AreQueues, IsBook, IsBounded, IsRefusal, IsWhole}
+use Rattle.version_book.proofs.Rooms.{room_fits}
 use Rattle.version_book.specs.Running.{IsIdle, ComesNext, Ran}
+use Rattle.version_book.proofs.Events.{numbers_grow}
 
 -- ---- what holds after so many events
 
 -- the row of a name after its event was run
-pub record IsRun (nodes : ℕ) (events : List Event) (j : ℕ) (r : Row) : Type 0 where
+pub record IsRun (nodes : ℕ) (w : World) (events : List Event) (j : ℕ) (r : Row) : Type 0 where
   pub event : event_of events j ≡ Some r.event
   pub caller : r.caller ≡ 0
   pub ended : is_ended r.ending ≡ true
-  pub arg : r.event.arg < 4294967296
-  pub full_where : (drawn wanted : ℕ) → r.ending ≡ full drawn wanted → nodes < drawn + wanted
+  pub numbers : (drawn wanted : ℕ) → r.ending ≡ full drawn wanted → IsRefusal w nodes drawn wanted
+  pub cause : HasCause w (direct_at w j) r.ending
+
+-- it stays so as the world grows
+run_grows : {a b : World} {nodes : ℕ} {events : List Event} {j : ℕ} {r : Row} → IsLegal a → IsLegal b → Grows a b → row_at a j ≡ Some r → row_at b j ≡ Some r → IsRun nodes a events j r → IsRun nodes b events j r
+run_grows {a} {b} {nodes} {events} {j} {r} legal legal' g was now h = record {
+  event = h.event;
+  caller = h.caller;
+  ended = h.ended;
+  numbers = λ d k f. numbers_grow legal legal' g (h.numbers d k f);
+  cause = cause_kept legal legal' g j (ap (option_and_then begun_of) (was ∙ sym now)) r.ending h.cause;
+}
 
 pub record AreRun (nodes : ℕ) (events : List Event) (i : ℕ) (v : View) : Type 0 where
   pub idle : IsIdle v
   pub named : v.named ≡ i
   pub capacity : v.about.capacity ≡ nodes
   pub rows : v.about.rows ≡ length events
-  pub rows_are : (j : ℕ) → 1 ≤ j → j ≤ i → (r : Row) × (row_at v.seen j ≡ Some r) × IsRun nodes events j r
+  pub rows_are : (j : ℕ) → 1 ≤ j → j ≤ i → (r : Row) × (row_at v.seen j ≡ Some r) × IsRun nodes v.seen events j r
 
-pub none-run : (nodes : ℕ) (events : List Event) → nodes ≤ 4000000 → AreRun nodes events 0 (opened_view nodes (length events))
-none-run nodes events small = record {
-  idle = record { own = record { alone = refl; plan = refl; caller = refl; claims = refl }; open_row = refl; small = small };
+pub none-run : (nodes : ℕ) (events : List Event) → AreRun nodes events 0 (opened_view nodes (length events))
+none-run nodes events = record {
+  idle = record { own = record { alone = refl; plan = refl; caller = refl; claims = refl }; open_rows = refl; reserved = refl };
   named = refl;
   capacity = refl;
   rows = refl;
   rows_are = λ j low high. absurd (omega (arith, low, high));
 }
 
--- ---- kinds
+-- ---- what an event says of smaller names, by the events or by the rows
 
-abbrev kind_step : Events → (ℕ → Option Kind) → ℕ → Option Kind
-kind_step events lower i = kind_made lower (events i)
-
-kind_made_agree : (f g : ℕ → Option Kind) (o : Option Event) → ((q : ℕ) → f q ≡ g q) → kind_made f o ≡ kind_made g o
-kind_made_agree f g None h = refl
-kind_made_agree f g (Some e) h = ap (new_kind e.op) (h e.base)
-
-below_agree : (E F : Events) (n : ℕ) → ((p : ℕ) → p < n → E p ≡ F p) → (q : ℕ) → below None (kind_step E) n q ≡ below None (kind_step F) n q
-below_agree E F zero h q = refl
-below_agree E F (suc n) h q = by (eqb q n) (below_agree E F n (λ p l. h p (omega arith)))
-  where
-    by : (b : Bool) → ((k : ℕ) → below None (kind_step E) n k ≡ below None (kind_step F) n k)
-        → elim b as (λ _. Option Kind) [ true ↦ kind_step E (below None (kind_step E) n) n | false ↦ below None (kind_step E) n q ] ≡ elim b as (λ _. Option Kind) [ true ↦ kind_step F (below None (kind_step F) n) n | false ↦ below None (kind_step F) n q ]
-    by true lower = ap (kind_made (below None (kind_step E) n)) (h n (omega arith)) ∙ kind_made_agree (below None (kind_step E) n) (below None (kind_step F) n) (F n) lower
-    by false lower = lower q
-
--- the kind of a name looks at no greater names
-kind_of_agree : (E F : Events) (n : ℕ) → ((p : ℕ) → p ≤ n → E p ≡ F p) → kind_of E n ≡ kind_of F n
-unfolding kind_of by_place
-kind_of_agree E F n h =
-    ap (kind_made (below None (kind_step E) n)) (h n (omega arith))
-    ∙ kind_made_agree (below None (kind_step E) n) (below None (kind_step F) n) (F n) (below_agree E F n (λ p l. h p (omega arith)))
-
-all_up : (s f g : ℕ → Bool) (xs : List ℕ) → ((b : ℕ) → s b ≡ true → f b ≡ true → g b ≡ true) → list_all s xs ≡ true → list_all f xs ≡ true → list_all g xs ≡ true
+all_up : (s f g : ℕ → Bool) (xs : List ℕ) → ((v : ℕ) → s v ≡ true → f v ≡ true → g v ≡ true) → list_all s xs ≡ true → list_all f xs ≡ true → list_all g xs ≡ true
 all_up s f g [] up h k = refl
 all_up s f g (x ∷ xs) up h k =
     let p = and_parts (s x) (list_all s xs) h in
     let q = and_parts (f x) (list_all f xs) k in
     rw (up x p.0 q.0, all_up s f g xs up p.1 q.1) refl
 
-abbrev is_below : ℕ → ℕ → Bool
-is_below i b = ltb 0 b && ltb b i
-
-below_is : (i b : ℕ) → is_below (suc i) b ≡ true → b ≤ i
-below_is i b h = let q = ltb-true b (suc i) (and_parts (ltb 0 b) (ltb b (suc i)) h).1 in omega (arith, q)
-
--- the base of an event is below it, or 0
-base_low : (op : Op) (base other i : ℕ) → uses_base op || eqb base 0 ≡ true → list_all (is_below (suc i)) (bases_of op base other) ≡ true → base ≤ i
-base_low op base other i t h = by (uses_base op) t h
-  where
-    by : (b : Bool) → b || eqb base 0 ≡ true → list_all (is_below (suc i)) (cond b (base ∷ cond (uses_other op) (other ∷ []) []) []) ≡ true → base ≤ i
-    by true t h = below_is i base (and_parts (is_below (suc i) base) (list_all (is_below (suc i)) (cond (uses_other op) (other ∷ []) [])) h).0
-    by false t h = let e = eqb-true base 0 t in omega (arith, e)
-
 abbrev kind_test : Event → Option Kind → Option Kind → Bool
 kind_test e z o = is_some_and (λ k. belongs k e.op && is_some_and (same_kind k) z) o
+
+abbrev named_test : ℕ → Option Event → Bool
+named_test v o = implies (is_second v) (is_some_and (λ (e : Event). is_split e.op) o)
 
 module _ (nodes : ℕ) (events : List Event) (script : IsScript events) (queues : AreQueues events) (i : ℕ) (v : View) (h : AreRun nodes events i v) where
   events_same : (k : ℕ) → k ≤ i → event_of events k ≡ events_of (row_at v.seen) k
@@ -106,33 +93,34 @@ module _ (nodes : ℕ) (events : List Event) (script : IsScript events) (queues 
   kinds_same : (k : ℕ) → k ≤ i → kind_of (event_of events) k ≡ kind_of (events_of (row_at v.seen)) k
   kinds_same k l = kind_of_agree (event_of events) (events_of (row_at v.seen)) k (λ p m. events_same p (omega (arith, m, l)))
 
-  ended_there : (k : ℕ) → is_below (suc i) k ≡ true → is_ended_at (row_at v.seen) k ≡ true
-  ended_there k b =
-      let t = h.rows_are k (let q = ltb-true 0 k (and_parts (ltb 0 k) (ltb k (suc i)) b).0 in omega (arith, q)) (below_is i k b) in
+  low : (u : ℕ) → is_smaller (suc i) u ≡ true → event_name u ≤ i
+  low u b = let l = smaller-lt (suc i) u b in omega (arith, l)
+
+  ended_there : (u : ℕ) → is_smaller (suc i) u ≡ true → is_ended_at (row_at v.seen) (event_name u) ≡ true
+  ended_there u b =
+      let t = h.rows_are (event_name u) (let q = smaller-pos (suc i) u b in omega (arith, q)) (low u b) in
       rw t.1 t.2.ended
 
   pub comes-next : (e : Event) → event_of events (suc i) ≡ Some e → i < length events → ComesNext v e
   comes-next e here more =
-      let t = and_parts (is_trim e && has_smaller_bases (suc i) e) (is_of_its_kind (event_of events) e) (script.each (suc i) e here) in
-      let u = and_parts (is_trim e) (has_smaller_bases (suc i) e) t.0 in
-      let trim : is_trim e ≡ true = u.0 in
-      let smaller : has_smaller_bases (suc i) e ≡ true = u.1 in
-      let kinds : is_of_its_kind (event_of events) e ≡ true = t.1 in
-      let trims = and_parts ((uses_base e.op || eqb e.base 0) && (uses_other e.op || eqb e.other 0)) (uses_argument e.op || eqb e.arg 0) trim in
-      let low : e.base ≤ i = base_low e.op e.base e.other i (and_parts (uses_base e.op || eqb e.base 0) (uses_other e.op || eqb e.other 0) trims.0).0 smaller in
+      let t = stands (event_of events) (suc i) e (script.each (suc i) e here) in
+      let base = base-low (suc i) e (omega arith) t.trim t.smaller in
       let name : suc i ≡ v.named + 1 = omega (arith, h.named) in
+      let kind = kinds_same (event_name e.base) (omega (arith, base)) in
       record {
         room = omega (arith, h.named, h.rows, more);
-        next = record { trim = trim; smaller = subst (λ z. has_smaller_bases z e ≡ true) name smaller };
-        ended = all_up (is_below (suc i)) (is_below (suc i)) (is_ended_at (row_at v.seen)) (bases e) (λ b s _. ended_there b s) smaller smaller;
-        kinds = all_up (is_below (suc i)) (λ b. kind_test e (kind_of (event_of events) e.base) (kind_of (event_of events) b)) (λ b. kind_test e (kind_of (events_of (row_at v.seen)) e.base) (kind_of (events_of (row_at v.seen)) b)) (bases e)
-            (λ b s k. subst (λ z. kind_test e z (kind_of (events_of (row_at v.seen)) b) ≡ true) (kinds_same e.base low) (subst (λ z. kind_test e (kind_of (event_of events) e.base) z ≡ true) (kinds_same b (below_is i b s)) k))
-            smaller kinds;
-        queue = ap (new_kind e.op) (sym (kinds_same e.base low)) ∙ sym (kind_is (event_of events) (suc i) e here smaller) ∙ queues (suc i) e here;
+        next = record { trim = t.trim; smaller = subst (λ z. has_smaller_bases z e ≡ true) name t.smaller; argument = lt-ltb e.arg (2 ^ 64) t.argument };
+        ended = all_up (is_smaller (suc i)) (is_smaller (suc i)) (λ u. is_ended_at (row_at v.seen) (event_name u)) (bases e) (λ u b _. ended_there u b) t.smaller t.smaller;
+        seconds = all_up (is_smaller (suc i)) (λ u. named_test u (event_of events (event_name u))) (λ u. named_test u (events_of (row_at v.seen) (event_name u))) (bases e)
+            (λ u b k. subst (λ o. named_test u o ≡ true) (events_same (event_name u) (low u b)) k) t.smaller t.seconds;
+        kinds = all_up (is_smaller (suc i)) (λ u. kind_test e (kind_of (event_of events) (event_name e.base)) (kind_of (event_of events) (event_name u))) (λ u. kind_test e (kind_of (events_of (row_at v.seen)) (event_name e.base)) (kind_of (events_of (row_at v.seen)) (event_name u))) (bases e)
+            (λ u b k. subst (λ z. kind_test e z (kind_of (events_of (row_at v.seen)) (event_name u)) ≡ true) kind (subst (λ z. kind_test e (kind_of (event_of events) (event_name e.base)) z ≡ true) (kinds_same (event_name u) (low u b)) k))
+            t.smaller t.kinds;
+        queue = ap (new_kind e.op) (sym kind) ∙ sym (kind_is (event_of events) (suc i) e here t.smaller) ∙ queues (suc i) e here;
       }
 
-  pub one-more : (w : View) (e : Event) (n : ℕ) → n ≡ suc i → event_of events (suc i) ≡ Some e → e.arg < 4294967296 → Ran v w e → AreRun nodes events n w
-  one-more w e n n_is here small ran = record {
+  pub one-more : IsLawfulView v → (w : View) → IsLawfulView w → (e : Event) (n : ℕ) → n ≡ suc i → event_of events (suc i) ≡ Some e → Ran v w e → AreRun nodes events n w
+  one-more law w law' e n n_is here ran = record {
     idle = ran.idle;
     named = omega (arith, ran.named, h.named, n_is);
     capacity = ap (λ (a : About). a.capacity) ran.about ∙ h.capacity;
@@ -146,7 +134,7 @@ module _ (nodes : ℕ) (events : List Event) (script : IsScript events) (queues 
       before : (j n i m : ℕ) → (j ≡ m + 1 → ⊥) → j ≤ n → n ≡ suc i → m ≡ i → j ≤ i
       before j n i m ne high a b = ⊎_elim (λ (eq : j ≡ suc i). absurd (ne (omega (arith, eq, b)))) (λ ne2. within j n i high a ne2) (cases_eq j (suc i))
 
-      new : (j : ℕ) → j ≡ v.named + 1 → (r : Row) × (row_at w.seen j ≡ Some r) × IsRun nodes events j r
+      new : (j : ℕ) → j ≡ v.named + 1 → (r : Row) × (row_at w.seen j ≡ Some r) × IsRun nodes w.seen events j r
       new j eq =
           let name : j ≡ suc i = omega (arith, eq, h.named) in (
             ran.row,
@@ -155,36 +143,28 @@ module _ (nodes : ℕ) (events : List Event) (script : IsScript events) (queues 
               event = ap (event_of events) name ∙ here ∙ ap (λ (x : Event). Some x) (sym ran.event);
               caller = ran.caller;
               ended = ran.ended;
-              arg = subst (λ (x : Event). x.arg < 4294967296) (sym ran.event) small;
-              full_where = λ d k f. (let q = ran.full_where d k f in omega (arith, q, h.capacity));
+              numbers = λ d k f. subst (λ z. IsRefusal w.seen z d k) h.capacity (ran.numbers d k f);
+              cause = subst (λ z. HasCause w.seen (direct_at w.seen z) ran.row.ending) (sym eq) ran.cause;
             },
           )
 
-      old : (j : ℕ) → 1 ≤ j → j ≤ n → (j ≡ v.named + 1 → ⊥) → (r : Row) × (row_at w.seen j ≡ Some r) × IsRun nodes events j r
+      old : (j : ℕ) → 1 ≤ j → j ≤ n → (j ≡ v.named + 1 → ⊥) → (r : Row) × (row_at w.seen j ≡ Some r) × IsRun nodes w.seen events j r
       old j low high ne =
           let t = h.rows_are j low (before j n i v.named ne high n_is h.named) in
-          (t.0, ran.others j ne ∙ t.1, t.2)
+          (t.0, ran.others j ne ∙ t.1, run_grows law.legal law'.legal ran.grows t.1 (ran.others j ne ∙ t.1) t.2)
 
 -- ---- the book in the end
-
-arg_word : (name : ℕ) (words : List ℕ) (r : Row) → row_of name words ≡ Some r → r.event.arg ≡ word words 2
-arg_word name words r = by (eqb (word words 0) 0) (op_of_number (word words 0 / 256))
-  where
-    by : (b : Bool) (o : Option Op) → cond b None (option_map (row_with name words) o) ≡ Some r → r.event.arg ≡ word words 2
-    by true o e = cc
-    by false None e = cc
-    by false (Some op) e = ap (λ (t : Row). t.event.arg) (sym (one_value (row_with name words op) r e))
 
 rows_length : (h : PlainHeap) → length (view_of h).seen.rows ≡ (view_of h).about.rows
 rows_length h = length-filled no_words h.row_capacity h.rows.items h.plain.rows_fit
 
 module _ (nodes : ℕ) (events : List Event) (i : ℕ) (v : View) (law : IsLawfulView v) (all : length v.seen.rows ≡ v.about.rows) (h : AreRun nodes events i v) (last : i ≡ length events) where
-  row_there : (j : ℕ) (r : Row) → row_at v.seen j ≡ Some r → IsRun nodes events j r
+  row_there : (j : ℕ) (r : Row) → row_at v.seen j ≡ Some r → IsRun nodes v.seen events j r
   row_there zero r e = cc
   row_there (suc k) r e = ⊎_elim
       (λ l. (let z : None ≡ Some r = sym (law.unnamed h.idle.own.alone (suc k) l) ∙ e in cc))
       (λ l. (let t = h.rows_are (suc k) (omega arith) (omega (arith, l, h.named)) in
-      subst (IsRun nodes events (suc k)) (one_value t.0 r (sym t.1 ∙ e)) t.2))
+      subst (IsRun nodes v.seen events (suc k)) (one_value t.0 r (sym t.1 ∙ e)) t.2))
       (cases_lt v.named (suc k))
 
   pub is_whole : IsWhole v
@@ -193,16 +173,42 @@ module _ (nodes : ℕ) (events : List Event) (i : ℕ) (v : View) (law : IsLawfu
       lawful = law.world;
       legal = law.legal;
       roots = law.roots;
+      unclaimed = quiet_all v law h.idle.own.alone h.idle.own.claims;
       readable = λ j low high. (let t = h.rows_are j low (omega (arith, high, all, h.rows, last)) in record {
         row = t.0;
         here = t.1;
         ended = t.2.ended;
         range = law.legal.ranges j t.0 t.1;
-        argument = subst (λ z. z < 4294967296) (arg_word j (words_at v.seen j) t.0 t.1) t.2.arg;
+        low = omega (arith, high, all, law.rows_few);
       });
     };
     named = omega (arith, all, h.rows, h.named, last);
   }
+
+  -- the rows have the events of the list, and there is none beside
+  events_there : (j : ℕ) → events_of (row_at v.seen) j ≡ event_of events j
+  events_there zero = refl
+  events_there (suc k) = ⊎_elim
+      (λ l. (let past : event_of events (suc k) ≡ None = slice_get_past events k (omega arith) in
+      ap (option_map (λ (r : Row). r.event)) (law.unnamed h.idle.own.alone (suc k) l) ∙ sym past))
+      (λ l. (let t = h.rows_are (suc k) (omega arith) (omega (arith, l, h.named)) in
+      ap (option_map (λ (r : Row). r.event)) t.1 ∙ sym t.2.event))
+      (cases_lt v.named (suc k))
+
+  within_room : room_of v.seen ≤ room events
+  within_room = room_fits v.seen law.legal events (fun_ext events_there) (all ∙ h.rows)
+
+  bounded : IsBounded v.seen nodes events
+  bounded = record {
+    steps = closed_steps v law h.idle.own.alone h.idle.own.claims;
+    places = closed_places v law h.idle.own.alone h.idle.own.claims;
+    room = within_room;
+    never_full = λ fits j r e. never r.ending (λ d k f. (let n = (row_there j r e).numbers d k f in absurd (omega (arith, fits, within_room, n.no_room, n.within))));
+  }
+    where
+      never : (t : Ending) → ((d k : ℕ) → t ≡ full d k → ⊥) → is_full t ≡ false
+      never (full d k) h = absurd (h d k refl)
+      never _ h = refl
 
   pub is_book : IsBook v.seen nodes events
   is_book = record {
@@ -210,7 +216,10 @@ module _ (nodes : ℕ) (events : List Event) (i : ℕ) (v : View) (law : IsLawfu
     count = all ∙ h.rows;
     events_are = λ j r e. (row_there j r e).event;
     callers = λ j r e. (row_there j r e).caller;
-    full_where = λ j r d k e f. (row_there j r e).full_where d k f;
+    full_where = λ j r d k e f. (row_there j r e).numbers d k f;
+    causes = λ j r e. (row_there j r e).cause;
+    within = omega (arith, law.places, h.capacity);
+    bounded = bounded;
   }
 
 pub book-of : (nodes : ℕ) (events : List Event) (h : PlainHeap) (i : ℕ) → AreRun nodes events i (view_of h) → i ≡ length events → IsBook (view_of h).seen nodes events

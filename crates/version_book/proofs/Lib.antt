@@ -8,4 +8,6 @@ pub mod Endings
 pub mod Skips
 pub mod Works
 pub mod Events
+pub mod Sums
+pub mod Rooms
 pub mod Books

@@ -1,14 +1,15 @@
 -- What storing one word of a row changes.
-use Rattle.std.proofs.Common.{◌≡◌, ℕ, zero, suc, ◌<◌, ◌≤◌, refl, sym, ap, ◌∙◌, arith, false, ⊎_elim, Some, None, List, [], length}
-use Rattle.std.specs.Prelude.{slice_set, slice_index_or}
+use Rattle.std.proofs.Common.{◌≡◌, ℕ, zero, suc, ◌<◌, ◌≤◌, refl, sym, ap, ◌∙◌, arith, ⊎_elim, Some, None, List, [], length}
+use Rattle.std.specs.Prelude.{slice_set, slice_index_or, option_map, option_and_then}
 use Rattle.std.proofs.lemmas.List.{get_or-set_same, get_or-set_other, get_or_past, length-set}
 use Rattle.std.proofs.lemmas.Bool.{cases_lt}
 use Rattle.heap_store.specs.World.{World, recs}
-use Rattle.std.proofs.Common.{eqb, ◌/◌, ◌-◌, get_or}
+use Rattle.std.proofs.Common.{◌≢◌, ◌-◌, ◌/◌, ◌%◌, ◌^◌, ◌∷◌, Bool, true, false, cond, Option, get_or}
 use Rattle.std.proofs.lemmas.Option.{slice_get-get_or}
 use Rattle.heap_store.proofs.ShowLaws.{one_value}
 use Rattle.lazy_rec.specs.declared.events.Op.{Op}
-use Rattle.heap_store.specs.Rows.{NamedRows, not_ended, op_of_number, caller_of_word, is_begun_word, event_with, row_with, row_of, row_at, word, words_at, word_at, store_word}
+use Rattle.lazy_rec.specs.History.{is_second, event_name}
+use Rattle.heap_store.specs.Rows.{Row, NamedRows, not_ended, full, memory, no_base, first_of, second_of, version_of, version_at, answer_of, ending_of, op_of_word, caller_of_word, is_begun_word, event_with, row_with, row_of, row_at, word, words_at, word_at, store_word}
 use Rattle.heap_store.specs.LookedAt.{RootsOf}
 
 -- other rows keep their words
@@ -45,31 +46,28 @@ roots-store w zero i v rows h = h
 roots-store w (suc k) i v rows h = record { roots = h.roots; looked = h.looked }
 
 -- and the stored word is there
-pub word-same : (w : World) (name i v : ℕ) → 1 ≤ name → length (words_at w name) ≡ 6 → i < 6 → word_at (store_word w name i v) name i ≡ v
-word-same w zero i v low six small = absurd (omega arith)
-word-same w (suc k) i v low six small = ⊎_elim
-    (λ l. ap (λ ws. word ws i) (get_or-set_same w.rows k _ [] l) ∙ get_or-set_same (slice_index_or w.rows k []) i v 0 (omega (arith, six)))
-    (λ l. absurd (omega (arith, six, ap length (get_or_past w.rows k [] l))))
+pub word-same : (w : World) (name i v : ℕ) → 1 ≤ name → length (words_at w name) ≡ 8 → i < 8 → word_at (store_word w name i v) name i ≡ v
+word-same w zero i v low wide small = absurd (omega arith)
+word-same w (suc k) i v low wide small = ⊎_elim
+    (λ l. ap (λ ws. word ws i) (get_or-set_same w.rows k _ [] l) ∙ get_or-set_same (slice_index_or w.rows k []) i v 0 (omega (arith, wide)))
+    (λ l. absurd (omega (arith, wide, ap length (get_or_past w.rows k [] l))))
     (cases_lt k (length w.rows))
 
--- ---- the row that six words show
+-- ---- the row that eight words show
 
 -- none where word 0 isn't stored
 pub no-row : (w : World) (name : ℕ) → word_at w name 0 ≡ 0 → row_at w name ≡ None
 no-row w name e = rw e refl
 
-nonzero : (n : ℕ) → (n ≡ 0 → ⊥) → eqb n 0 ≡ false
-nonzero n h = grind arith
-
 -- a row, by all its words
-pub whole-row : (w : World) (name : ℕ) (op : Op) → (word_at w name 0 ≡ 0 → ⊥) → op_of_number (word_at w name 0 / 256) ≡ Some op
+pub whole-row : (w : World) (name : ℕ) (op : Op) → op_of_word (word_at w name 0) ≡ Some op
     → row_at w name ≡ Some (row_with name (words_at w name) op)
-whole-row w name op some op_is = rw (nonzero _ some, op_is) refl
+whole-row w name op op_is = rw op_is refl
 
 -- an unended row, by its first three words
-pub open-row : (w : World) (name : ℕ) (op : Op) → (word_at w name 0 ≡ 0 → ⊥) → op_of_number (word_at w name 0 / 256) ≡ Some op → word_at w name 5 ≡ 0
+pub open-row : (w : World) (name : ℕ) (op : Op) → op_of_word (word_at w name 0) ≡ Some op → word_at w name 5 ≡ 0
     → row_at w name ≡ Some (record { caller = caller_of_word (word_at w name 0); event = event_with (words_at w name) op; begun = is_begun_word (word_at w name 0); ending = not_ended })
-open-row w name op some op_is end = rw (nonzero _ some, op_is, end) refl
+open-row w name op op_is end = rw (op_is, end) refl
 
 -- the words of a name, as a read of the rows gives them
 pub words-read : (w : World) (name : ℕ) (ws : List ℕ) → 1 ≤ name → name ≤ length w.rows → ws ≡ get_or w.rows (name - 1) ws → words_at w name ≡ ws
@@ -78,3 +76,36 @@ words-read w (suc k) ws low high e =
     let l : k < length w.rows = omega arith in
     let i : suc k - 1 ≡ k = omega arith in
     one_value _ _ (sym (slice_get-get_or w.rows k [] l) ∙ slice_get-get_or w.rows k ws l) ∙ sym (rw i at e)
+
+-- ---- how a row ended, by its words
+
+-- the words of a row tell its ending
+pub row_ending : (name : ℕ) (ws : List ℕ) (r : Row) → row_of name ws ≡ Some r → ending_of name ws ≡ r.ending
+row_ending name ws r = by (op_of_word (word ws 0))
+  where
+    by : (o : Option Op) → option_map (row_with name ws) o ≡ Some r → ending_of name ws ≡ r.ending
+    by None e = cc
+    by (Some op) e = ap (λ (x : Row). x.ending) (one_value (row_with name ws op) r e)
+
+-- a row whose end word isn't that of a reply has no version
+pub not_replied : (w : World) (n : ℕ) → word_at w (event_name n) 5 ≢ 1 → None ≡ version_at (row_at w) n
+not_replied w n ne = by (op_of_word (word_at w (event_name n) 0))
+  where
+    none : (k : ℕ) → k ≢ 1 → (b : Bool) → None ≡ cond b
+        (second_of (slice_index_or (not_ended ∷ answer_of (event_name n) (words_at w (event_name n)) ∷ full (word_at w (event_name n) 4 % 2 ^ 32) (word_at w (event_name n) 4 / 2 ^ 32) ∷ memory ∷ no_base ∷ []) k not_ended))
+        (first_of (slice_index_or (not_ended ∷ answer_of (event_name n) (words_at w (event_name n)) ∷ full (word_at w (event_name n) 4 % 2 ^ 32) (word_at w (event_name n) 4 / 2 ^ 32) ∷ memory ∷ no_base ∷ []) k not_ended))
+    none zero h true = refl
+    none zero h false = refl
+    none (suc zero) h b = absurd (h refl)
+    none (suc (suc zero)) h true = refl
+    none (suc (suc zero)) h false = refl
+    none (suc (suc (suc zero))) h true = refl
+    none (suc (suc (suc zero))) h false = refl
+    none (suc (suc (suc (suc zero)))) h true = refl
+    none (suc (suc (suc (suc zero)))) h false = refl
+    none (suc (suc (suc (suc (suc k))))) h true = refl
+    none (suc (suc (suc (suc (suc k))))) h false = refl
+
+    by : (o : Option Op) → None ≡ option_and_then (λ (r : Row). version_of n r.ending) (option_map (row_with (event_name n) (words_at w (event_name n))) o)
+    by None = refl
+    by (Some op) = none (word_at w (event_name n) 5) ne (is_second n)

@@ -1,6 +1,6 @@
 -- The work of one event.
-use Rattle.std.proofs.Common.{◌≡◌, ℕ, refl, sym, ap, ◌∙◌, subst, arith, Bool, true, false, ◌||◌, Some, None, List, [], ◌∷◌, ◌++◌, length}
-use Rattle.std.proofs.lemmas.Bool.{true≢false, and_parts, or_right, eqb-true}
+use Rattle.std.proofs.Common.{◌≡◌, ℕ, refl, sym, ap, ◌∙◌, subst, arith, leb, Option, ◌≤◌, Bool, true, false, ◌||◌, Some, None, List, [], ◌∷◌, ◌++◌, length}
+use Rattle.std.proofs.lemmas.Bool.{true≢false, and_parts, and_from, or_left, or_right, eqb-true, le-leb}
 use Rattle.lazy_rec.specs.declared.records.Rec.{Rec}
 use Rattle.lazy_rec.specs.declared.records.Rec.TheVariants.{BankTop}
 use Rattle.lazy_rec.specs.declared.records.Sort.TheVariants as sorts
@@ -19,9 +19,14 @@ use Rattle.heap_store.specs.World.{World, recs, holds, done_at}
 use Rattle.heap_store.specs.Growth.{Grows}
 use Rattle.heap_store.specs.Lawful.{IsLawful, is_root}
 use Rattle.heap_store.specs.Hand.{Hand, IsInHand, claim_places, places_from, without, hand_refused}
-use Rattle.heap_store.specs.View.{View, Refusals, IsLawfulView, Quiet, Reserved, Refused}
+use Rattle.heap_store.specs.Budget.{is_funded, is_funded_at}
+use Rattle.heap_store.specs.Stages.{places_now}
+use Rattle.heap_store.specs.View.{View, SameRows, Refusals, IsLawfulView, Quiet, Reserved, Refused}
 use Rattle.heap_store.specs.Jobs.{IsWork, IsVersion, IsJob, StageWell, IsEventNeed, IsEventBuildable, Filled, may_seek}
-use Rattle.heap_store.proofs.GrowthLaws.{at_true, grows_refl, grows_trans}
+use Rattle.heap_store.proofs.RoomLaws.{refused_within}
+use Rattle.heap_store.proofs.StageLaws.{own_due, own_places}
+use Rattle.heap_store.proofs.CauseLaws.{wanted_among}
+use Rattle.heap_store.proofs.GrowthLaws.{at_true, same_up, at_up, grows_refl, grows_trans}
 use Rattle.heap_store.proofs.Steps.{SameRows_refl, SameRows_trans}
 use Rattle.heap_store.proofs.MeaningLaws.{means_kept}
 use Rattle.heap_store.proofs.RowLaws.{has_root_up}
@@ -29,73 +34,102 @@ use Rattle.heap_store.proofs.LawfulLaws.{lawful_names}
 use Rattle.heap_store.proofs.ShowLaws.{one_value}
 use Rattle.force_engine.specs.declared.solo.GiveUp.{GiveUp}
 use Rattle.force_engine.specs.declared.solo.GiveUp.TheVariants as causes
-use Rattle.force_engine.specs.Forced.{IsForcible, IsKept, Forced, IsGivenUp, hand_idle}
+use Rattle.force_engine.specs.Forced.{IsForcible, IsKept, Forced, NoMoreGiven, IsGivenUp, hand_idle}
+use Rattle.force_engine.proofs.Growing.{IsWork-pending}
+use Rattle.force_engine.proofs.Turns.{alone_on}
 use Rattle.force_engine.proofs.Finish.{contains-append_right, contains-places_from, without-fresh}
 use Rattle.bank_queue.specs.Queue.{IsReadyEvent}
 use Rattle.version_book.specs.Book.{IsOwn}
-use Rattle.version_book.specs.Running.{Worked, Balked, Stopped, ReadyNow}
+use Rattle.version_book.specs.Running.{hand_spent, Worked, Balked, Stopped, ReadyNow, HasMeans}
 
 -- ---- composing
 
 pub worked_refl : (v : View) → Worked v v
-worked_refl v = record { grows = grows_refl v.seen; hand = refl; refusals = refl; about = refl; rows = SameRows_refl v }
+worked_refl v = record { grows = grows_refl v.seen; hand = refl; refusals = refl; about = refl; rows = λ _. SameRows_refl v }
 
 pub worked_trans : {a b c : View} → Worked a b → Worked b c → Worked a c
-worked_trans f g = record { grows = grows_trans f.grows g.grows; hand = g.hand ∙ f.hand; refusals = g.refusals ∙ f.refusals; about = g.about ∙ f.about; rows = SameRows_trans f.rows g.rows }
+worked_trans {a} {b} {c} f g = record {
+  grows = grows_trans f.grows g.grows;
+  hand = g.hand ∙ ap (λ h. hand_spent h c.hand) f.hand;
+  refusals = g.refusals ∙ f.refusals;
+  about = g.about ∙ f.about;
+  rows = λ alone. SameRows_trans (f.rows alone) (g.rows (alone_on a b f.about alone));
+}
 
-pub worked_balked : {a b c : View} {refusal : Full} → Worked a b → Balked b c refusal → Balked a c refusal
-worked_balked f g = record { grows = grows_trans f.grows g.grows; hand = g.hand ∙ ap hand_refused f.hand; last = g.last; about = g.about ∙ f.about; rows = SameRows_trans f.rows g.rows; drawn = g.drawn; asked = g.asked; no_room = g.no_room }
-
-pub worked_stopped : {a b : View} (c : View) (cause : GiveUp) → Worked a b → Stopped b c cause → Stopped a c cause
-worked_stopped c (causes.Full refusal) f g = worked_balked f g
-worked_stopped c causes.NoMemory f g = worked_trans f g
+pub worked_balked : {a b c : View} {most : ℕ} {refusal : Full} → Worked a b → Balked b c most refusal → Balked a c most refusal
+worked_balked {a} {b} {c} f g = record {
+  grows = grows_trans f.grows g.grows;
+  hand = g.hand ∙ ap {A = Hand} {B = Hand} (λ h. record (hand_spent (hand_refused h) c.hand) { vain = c.hand.vain }) f.hand;
+  last = g.last;
+  about = g.about ∙ f.about;
+  low = g.low;
+  no_room = g.no_room;
+  cause = g.cause;
+  rows = λ alone. SameRows_trans (f.rows alone) (g.rows (alone_on a b f.about alone));
+  drawn = λ alone. g.drawn (alone_on a b f.about alone);
+  within = λ alone. g.within (alone_on a b f.about alone);
+}
 
 -- a quiet call on an own heap leaves all as it was
 pub quiet_same : {a b : View} → IsOwn a → Quiet a b → b ≡ a
 quiet_same own q = q.alone own.alone
 
 pub own_worked : {a b : View} → IsOwn a → Worked a b → IsOwn b
-own_worked own w = record { alone = rw w.about own.alone; plan = rw w.about own.plan; caller = rw w.about own.caller; claims = rw w.hand own.claims }
+own_worked own w = record { alone = rw w.about own.alone; plan = rw w.about own.plan; caller = rw w.about own.caller; claims = ap (λ (h : Hand). h.claims) w.hand ∙ own.claims }
 
 -- ---- forces
 
 pub forced_worked : {a b : View} → Forced a b → Worked a b
-forced_worked f = record { grows = f.grows; hand = f.hand; refusals = f.refusals; about = f.about; rows = f.rows }
+forced_worked {a} {b} f = record { grows = f.grows; hand = f.hand ∙ ap (λ cs. record a.hand { claims = cs; credits = b.hand.credits; allowance = b.hand.allowance }) f.claims; refusals = f.refusals; about = f.about; rows = f.rows }
 
 pub forced_after : {a b c : View} → IsOwn a → Quiet a b → Forced b c → Worked a c
 forced_after {a} {b} {c} own q f = subst (λ (v : View). Worked v c) (quiet_same own q) (forced_worked f)
 
-idle_same : (h : Hand) → h.claims ≡ [] → hand_idle h ≡ h
-idle_same h e = rw (← e) refl
+idle_same : (h now : Hand) → h.claims ≡ [] → hand_idle h now ≡ hand_spent h now
+idle_same h now e = rw (← e) refl
 
-pub given_stopped : {a b : View} {s : ℕ} (cause : GiveUp) → IsOwn a → IsLawfulView b → IsGivenUp a b s cause → Stopped a b cause
-given_stopped {a} {b} (causes.Full refusal) own law g =
+no_more_rows : {a b : View} {given : List ℕ} → (a.about.alone ≡ true → NoMoreGiven a b given) → a.about.alone ≡ true → SameRows a b
+no_more_rows h alone = (h alone).rows
+
+given_stopped : {a b : View} {s : ℕ} (most : ℕ) (cause : GiveUp) → IsOwn a → IsGivenUp a b s cause → Stopped a b most cause
+given_stopped {a} {b} most (causes.Full refusal) own g =
     let c = g.gave_up.cause_is in
-    let alone : b.about.alone ≡ true = rw g.gave_up.about own.alone in
     record {
       grows = g.gave_up.grows;
-      hand = c.hand ∙ idle_same (hand_refused a.hand) own.claims;
+      hand = c.hand ∙ ap {A = Hand} {B = Hand} (λ h. record h { vain = b.hand.vain }) (idle_same (hand_refused a.hand) b.hand own.claims);
       last = ap (λ (r : Refusals). r.last) c.refusals;
       about = g.gave_up.about;
-      rows = g.gave_up.rows;
-      drawn = omega (arith, c.drawn, law.room alone);
-      asked = c.asked;
+      low = c.low;
       no_room = rw g.gave_up.about c.no_room;
+      cause = record { asked = c.asked; wanted_by = or_right (leb refusal.wanted most) _ (wanted_among b.seen refusal.wanted g.given c.wanted_by) };
+      rows = no_more_rows g.gave_up.no_more;
+      drawn = c.drawn;
+      within = c.within;
     }
-given_stopped {a} {b} causes.NoMemory own law g =
+given_stopped {a} {b} most causes.NoMemory own g =
     let c = g.gave_up.cause_is in
-    record { grows = g.gave_up.grows; hand = c.hand ∙ idle_same a.hand own.claims; refusals = c.refusals; about = g.gave_up.about; rows = g.gave_up.rows }
+    record {
+      worked = record { grows = g.gave_up.grows; hand = c.hand ∙ idle_same a.hand b.hand own.claims; refusals = c.refusals; about = g.gave_up.about; rows = no_more_rows g.gave_up.no_more };
+      cause = c.shown;
+    }
 
-pub forcible : (does : Rec → Bool) (w : World) (t : ℕ) → IsWork does w t → IsForcible does w t
-forcible does w t h =
+-- a force after a look
+pub force_stopped : {a b : View} {s : ℕ} (c : View) (most : ℕ) (cause : GiveUp) → IsOwn a → Quiet a b → IsGivenUp b c s cause → Stopped a c most cause
+force_stopped {a} {b} {s} c most cause own q g = given_stopped most cause own (subst (λ (v : View). IsGivenUp v c s cause) (quiet_same own q) g)
+
+pub forcible : (does : Rec → Bool) (w : World) (t : ℕ) → IsWork does w t → is_funded_at w t ≡ true → IsForcible does w t
+forcible does w t h funded =
     let k = at_true _ (recs w t) h in
     let p = and_parts (is_pending k.0) (does k.0) k.2 in
-    rw k.1 (or_right _ _ p.1)
+    let e = k.1 in
+    let f : is_funded w t k.0 ≡ true = rw e at funded in
+    rw e (or_right _ _ (and_from (does k.0) (is_funded w t k.0) p.1 f))
 
 version_grows : {a b : World} → IsLawful a → Grows a b → (v : Version) → IsVersion a v → IsVersion b v
 version_grows {a} {b} law x v h =
     let k = at_true _ (recs a v.root.0) h.root in
     record {
+      value = at_up _ _ (recs a v.root.0) (recs b v.root.0) (x.records v.root.0) (λ r. same_up) h.value;
       root = has_root_up a b (lawful_names law) x v.kind v.root.0 h.root;
       size = h.size ∙ ap length (means_kept (recs a) (recs b) (lawful_names law) x.records v.root.0 (k.0, k.1));
       most = h.most;
@@ -109,6 +143,7 @@ job_grows {a} {b} job law x start h =
       kinds = h.kinds;
       base = version_grows law x job.base h.base;
       other = version_grows law x job.other h.other;
+      has = h.has;
       stage = subst P (sym start) tt;
     }
 
@@ -123,15 +158,15 @@ front_sought w ops.Tail p t (BankTop front a b c d e f g) s h = eqb-true _ _ h
 front_sought w op p t (BankTop front a b c d e f g) s h = absurd (true≢false (sym h))
 front_sought w op p t _ s h = absurd (true≢false (sym s))
 
-the_front : (w : World) (job : EventJob) (does : Rec → Bool) (t : ℕ) → job.other ≡ job.base → job.base.kind ≡ kinds.Bankq → IsVersion w job.base → IsEventNeed does w job t → (r : Rec) × (recs w job.base.root.0 ≡ Some r) × (front_of r ≡ t)
-the_front w job does t same kind version need =
+the_front : (w : World) (job : EventJob) (does : Rec → Bool) (t : ℕ) → job.other ≡ job.base → job.stage ≡ Start → job.base.kind ≡ kinds.Bankq → IsVersion w job.base → IsEventNeed does w job t → (r : Rec) × (recs w job.base.root.0 ≡ Some r) × (front_of r ≡ t)
+the_front w job does t same start kind version need =
     let root : holds (recs w) job.base.root.0 (is_root (recs w) kinds.Bankq job.base.root.0) ≡ true = rw kind at version.root in
     let k = at_true _ (recs w job.base.root.0) root in
-    let sought : holds (recs w) job.base.root.0 (may_seek w job.op job.base.root.0 t) ≡ true = once (holds (recs w) job.base.root.0 (may_seek w job.op job.base.root.0 t)) (rw same at need.sought) in
+    let sought : holds (recs w) job.base.root.0 (may_seek w job.op job.base.root.0 t) ≡ true = once (holds (recs w) job.base.root.0 (may_seek w job.op job.base.root.0 t)) (rw (same, start) at need.sought) in
     let here : may_seek w job.op job.base.root.0 t k.0 ≡ true = rw k.1 at sought in
     (k.0, k.1, front_sought w job.op job.base.root.0 t k.0 k.2 here)
   where
-    once : (b : Bool) → b || b ≡ true → b ≡ true
+    once : (b : Bool) → (b || b) || false ≡ true → b ≡ true
     once true h = h
     once false h = h
 
@@ -139,10 +174,10 @@ absurd_some : {X : Type 0} {x : X} → Some x ≡ None → ⊥
 absurd_some e = cc
 
 -- after its front is done, a queue needs nothing more
-pub no_second : (a b : World) (job : EventJob) (does does' : Rec → Bool) (t u place : ℕ) → Grows a b → job.other ≡ job.base → job.base.kind ≡ kinds.Bankq → IsVersion a job.base → IsVersion b job.base → IsEventNeed does a job t → IsKept b t place → IsEventNeed does' b job u → ⊥
-no_second a b job does does' t u place x same kind va vb first kept second =
-    let f = the_front a job does t same kind va first in
-    let g = the_front b job does' u same kind vb second in
+pub no_second : (a b : World) (job : EventJob) (does does' : Rec → Bool) (t u place : ℕ) → Grows a b → job.other ≡ job.base → job.stage ≡ Start → job.base.kind ≡ kinds.Bankq → IsVersion a job.base → IsVersion b job.base → IsEventNeed does a job t → IsKept b t place → IsEventNeed does' b job u → ⊥
+no_second a b job does does' t u place x same start kind va vb first kept second =
+    let f = the_front a job does t same start kind va first in
+    let g = the_front b job does' u same start kind vb second in
     let r : f.0 ≡ g.0 = one_value _ _ (sym (x.records job.base.root.0 f.0 f.1) ∙ g.1) in
     let e : t ≡ u = sym f.2 ∙ ap front_of r ∙ g.2 in
     let z : done_at b u ≡ Some (place, kept.steps) = rw e at kept.done in
@@ -150,20 +185,26 @@ no_second a b job does does' t u place x same kind va vb first kept second =
 
 -- ---- reserves
 
-pub refused_balked : {a b : View} {k : ℕ} {refusal : Full} → IsOwn a → IsLawfulView b → Refused a b k refusal → Balked a b refusal
-refused_balked {a} {b} own law r =
-    let same = r.alone own.alone in
-    let alone : b.about.alone ≡ true = rw r.about own.alone in
-    record {
-      grows = r.grows;
-      hand = r.hand;
-      last = ap (λ (x : Refusals). x.last) r.refusals;
-      about = r.about;
-      rows = record { rows = ap (λ (w : World). w.rows) same.0; named = same.2 };
-      drawn = omega (arith, same.3, same.1, law.room alone);
-      asked = omega (arith, r.asked, r.wanted);
-      no_room = rw r.about (omega (arith, r.no_room, r.wanted));
-    }
+pub refused_balked : {a b : View} {k : ℕ} {refusal : Full} (most : ℕ) → IsLawfulView b → k ≤ a.hand.allowance → k ≤ most → Refused a b k refusal → Balked a b most refusal
+refused_balked {a} {b} {k} {refusal} most law few own r = record {
+  grows = r.grows;
+  hand = r.hand ∙ spent (hand_refused a.hand) b.hand.vain b.hand (ap (λ (h : Hand). h.credits) r.hand) (ap (λ (h : Hand). h.allowance) r.hand);
+  last = ap (λ (x : Refusals). x.last) r.refusals;
+  about = r.about;
+  low = r.low;
+  no_room = rw r.about (omega (arith, r.no_room, r.wanted));
+  cause = record { asked = omega (arith, r.asked, r.wanted); wanted_by = or_left _ _ (le-leb refusal.wanted most (omega (arith, r.wanted, own))) };
+  rows = λ alone. (let same = r.alone alone in record { rows = ap (λ (w : World). w.rows) same.0; named = same.2 });
+  drawn = λ alone. (let same = r.alone alone in same.3 ∙ sym same.1);
+  within = λ alone. (let same = r.alone alone in omega (arith, refused_within b law (alone_on a b r.about alone) k (rw r.hand few), same.1, same.3, r.wanted));
+}
+  where
+    spent : (h : Hand) (vain : Option Full) (now : Hand) → now.credits ≡ h.credits → now.allowance ≡ h.allowance → record h { vain = vain } ≡ record (hand_spent h now) { vain = vain }
+    spent h vain now e f = rw (e, f) refl
+
+-- the places of a stage may be reserved
+pub may_reserve : {v : View} {nodes : ℕ} (job : EventJob) → HasMeans v job → nodes ≤ places_now job → nodes ≤ v.hand.allowance
+may_reserve job means few = omega (arith, means.places, few, own_places job)
 
 pub in_hand : {a b : View} {k : ℕ} {run : Span} → Reserved a b k run → IsInHand b.hand run
 in_hand {a} {b} {k} {run} r =
@@ -174,26 +215,31 @@ no_claims : (cs : List HeldClaim) → claim_places cs ≡ [] → cs ≡ []
 no_claims [] e = refl
 no_claims (c ∷ cs) e = cc
 
+-- hands that agree but for the credits and the places that may still be reserved
+hand_back : (a c : Hand) → c.claims ≡ a.claims → c.reserved ≡ a.reserved → c.names ≡ a.names → c.open_rows ≡ a.open_rows → c.mine ≡ a.mine → c.vain ≡ a.vain → c ≡ hand_spent a c
+hand_back a c e f g h i k = rw (← e, ← f, ← g, ← h, ← i, ← k) refl
+
 -- a run that was reserved and filled leaves the hand as it was
 pub filled_worked : {a b c : View} {k : ℕ} {run : Span} → IsOwn a → Reserved a b k run → Filled b c run.next run.end → Worked a c
 filled_worked {a} {b} {c} {k} {run} own r f =
-    let same = r.alone own.alone in
-    let alone : b.about.alone ≡ true = rw r.about own.alone in
-    let d = f.alone alone in
     let claims_b : b.hand.claims ≡ [] = ap (λ (h : Hand). h.claims) r.hand ∙ own.claims in
     let claims_c : c.hand.claims ≡ [] = no_claims c.hand.claims (f.claims ∙ ap claim_places claims_b) in
     let left : without run.next run.end (a.hand.reserved ++ places_from run.next k) ≡ a.hand.reserved = rw (← r.size) (without-fresh run.next k a.hand.reserved r.unheld) in
-    let hand_c : c.hand ≡ record a.hand { claims = c.hand.claims } = f.hand ∙ ap (λ (h : Hand). record h { reserved = without run.next run.end h.reserved; claims = c.hand.claims }) r.hand ∙ ap (λ ps. record a.hand { reserved = ps; claims = c.hand.claims }) left in
     record {
       grows = grows_trans r.grows f.grows;
-      hand = hand_c ∙ ap (λ cs. record a.hand { claims = cs }) (claims_c ∙ sym own.claims);
+      hand = hand_back a.hand c.hand (claims_c ∙ sym own.claims)
+          (ap (λ (h : Hand). h.reserved) f.hand ∙ (ap (λ (h : Hand). without run.next run.end h.reserved) r.hand ∙ left))
+          (ap (λ (h : Hand). h.names) f.hand ∙ ap (λ (h : Hand). h.names) r.hand)
+          (ap (λ (h : Hand). h.open_rows) f.hand ∙ ap (λ (h : Hand). h.open_rows) r.hand)
+          (ap (λ (h : Hand). h.mine) f.hand ∙ ap (λ (h : Hand). h.mine) r.hand)
+          (ap (λ (h : Hand). h.vain) f.hand ∙ ap (λ (h : Hand). h.vain) r.hand);
       refusals = f.refusals ∙ r.refusals;
       about = f.about ∙ r.about;
-      rows = SameRows_trans (record { rows = ap (λ (w : World). w.rows) same.0; named = same.2 }) d.0;
+      rows = λ alone. (let same = r.alone alone in SameRows_trans (record { rows = ap (λ (w : World). w.rows) same.0; named = same.2 }) (f.alone (alone_on a b r.about alone)).0);
     }
 
-pub buildable : {a b : View} {nodes : ℕ} {run : Span} (job : EventJob) → IsLawfulView a → IsJob a.seen job → IsReadyEvent a.seen job nodes → Reserved a b nodes run → IsEventBuildable IsReadyEvent b job run
-buildable {a} {b} {nodes} {run} job law is ready r = record {
+pub buildable : {a b : View} {nodes : ℕ} {run : Span} (job : EventJob) → IsLawfulView a → IsJob a.seen job → IsReadyEvent a.seen job nodes → HasMeans a job → Reserved a b nodes run → IsEventBuildable IsReadyEvent b job run
+buildable {a} {b} {nodes} {run} job law is ready means r = record {
   base = a.seen;
   base_lawful = law.world;
   base_grows = r.grows;
@@ -203,25 +249,33 @@ buildable {a} {b} {nodes} {run} job law is ready r = record {
   above = λ q t h. r.fresh q t (r.grows.records q t h);
   size = r.size;
   held = in_hand r;
+  credits = (let e : b.hand.credits ≡ a.hand.credits = ap (λ (h : Hand). h.credits) r.hand in omega (arith, e, means.credits, own_due job));
 }
 
 -- ---- after the force of a need
-
-work_pending : (does : Rec → Bool) (w : World) (t : ℕ) → IsWork does w t → holds (recs w) t is_pending ≡ true
-work_pending does w t h =
-    let k = at_true _ (recs w t) h in
-    let p = and_parts (is_pending k.0) (does k.0) k.2 in
-    rw k.1 p.0
 
 pub second_need : {a b c d : View} (does does' : Rec → Bool) (job : EventJob) (t u place : ℕ) → IsOwn a → IsLawful a.seen → Quiet a b → Forced b c → Quiet c d → job.other ≡ job.base → job.stage ≡ Start → job.base.kind ≡ kinds.Bankq → IsJob a.seen job → IsEventNeed does b.seen job t → (holds (recs b.seen) t is_pending ≡ true → IsKept c.seen t place) → IsEventNeed does' d.seen job u → ⊥
 second_need {a} {b} {c} {d} does does' job t u place own law q f q' same start kind is first kept second =
     let w = forced_after own q f in
     let n = subst (λ (v : View). IsEventNeed does' v.seen job u) (quiet_same (own_worked own w) q') second in
     let version = subst (λ (v : View). IsVersion v.seen job.base) (sym (quiet_same own q)) is.base in
-    no_second b.seen c.seen job does does' t u place f.grows same kind version (job_grows job law w.grows start is).base first (kept (work_pending does b.seen t first.work)) n
+    no_second b.seen c.seen job does does' t u place f.grows same start kind version (job_grows job law w.grows start is).base first (kept (IsWork-pending does b.seen t first.work)) n
 
-pub ready_after : {a b c d : View} (job : EventJob) (nodes : ℕ) → IsOwn a → IsLawful a.seen → Quiet a b → Forced b c → Quiet c d → job.stage ≡ Start → IsJob a.seen job → IsReadyEvent d.seen job nodes → ReadyNow a d job nodes
-ready_after {a} {b} {c} {d} job nodes own law q f q' start is ready =
+-- a force leaves what the job may spend and reserve
+means_after : {a b c d : View} {job : EventJob} → Quiet a b → Forced b c → Quiet c d → HasMeans a job → HasMeans d job
+means_after {a} {b} {c} {d} q f q' m =
+    let k : b.hand.credits ≡ a.hand.credits = ap (λ (h : Hand). h.credits) q.hand in
+    let k' : d.hand.credits ≡ c.hand.credits = ap (λ (h : Hand). h.credits) q'.hand in
+    let p : b.hand.allowance ≡ a.hand.allowance = ap (λ (h : Hand). h.allowance) q.hand in
+    let p' : d.hand.allowance ≡ c.hand.allowance = ap (λ (h : Hand). h.allowance) q'.hand in
+    record { credits = omega (arith, k, k', f.credits, m.credits); places = omega (arith, p, p', f.allowance, m.places) }
+
+-- what is ready at once
+pub ready_at_once : {a b : View} (job : EventJob) (nodes : ℕ) → IsOwn a → Quiet a b → IsJob a.seen job → HasMeans a job → IsReadyEvent b.seen job nodes → nodes ≤ places_now job → ReadyNow a b job nodes
+ready_at_once {a} {b} job nodes own q is means ready few = rw (quiet_same own q) (record { worked = worked_refl a; job_is = is; ready = rw (quiet_same own q) at ready; means = means; few = few })
+
+pub ready_after : {a b c d : View} (job : EventJob) (nodes : ℕ) → IsOwn a → IsLawful a.seen → Quiet a b → Forced b c → Quiet c d → job.stage ≡ Start → IsJob a.seen job → HasMeans a job → IsReadyEvent d.seen job nodes → nodes ≤ places_now job → ReadyNow a d job nodes
+ready_after {a} {b} {c} {d} job nodes own law q f q' start is means ready few =
     let w = forced_after own q f in
     let w' = subst (λ (v : View). Worked a v) (sym (quiet_same (own_worked own w) q')) w in
-    record { worked = w'; job_is = job_grows job law w'.grows start is; ready = ready }
+    record { worked = w'; job_is = job_grows job law w'.grows start is; ready = ready; means = means_after q f q' means; few = few }

@@ -3,29 +3,32 @@ ghost use Rattle.std.specs.Prelude.{◌≡◌, ◌≤◌, Some, length};
 ghost use Rattle.heap_store.specs.World.{node_at};
 ghost use Rattle.heap_store.specs.Opened.{view_of};
 ghost use Rattle.version_book.specs.Closed.{IsWhole, row_told, node_told};
+ghost use Rattle.version_book.specs.Totals.{totals_of};
 
 use crate::rows::{self, Row};
-use heap_store::PlainHeap;
+use crate::totals::{Totals, count_totals};
+use heap_store::{PlainHeap, Rows};
 use lazy_rec::{Rec, Ref, SuspState};
 use std::marker::Model;
 
 /// A closed book. It is seen as its world: the nodes by their places, and the words of the rows by their names. The world is
-/// lawful, its rows are a legal history, and each row has ended.
+/// lawful, its rows are a legal history, and each row has ended. Its totals are counted when it is closed.
 #[derive(Drop)]
 pub struct Closed {
     heap: PlainHeap,
+    totals: Totals,
 }
 
 impl Model for Closed {
     ghost use Rattle.heap_store.specs.World.{World};
     ghost use Rattle.heap_store.specs.Opened.{view_of};
-    ghost use Rattle.version_book.specs.Closed.{IsWhole};
+    ghost use Rattle.version_book.specs.Closed.{IsCounted};
 
     ghost Value = { World };
 
     ghost view = { λ c. (view_of c.heap).seen };
 
-    ghost invariant = { λ c. IsWhole (view_of c.heap) };
+    ghost invariant = { λ c. IsCounted (view_of c.heap) c.totals };
 }
 
 impl Closed {
@@ -34,14 +37,17 @@ impl Closed {
         requires { IsWhole (view_of heap) }
         ensures { result ≡ (view_of heap).seen }
     {
-        Closed { heap }
+        let mut heap = heap;
+        let (_, drawn) = heap.load_counts();
+        let totals = count_totals(&heap, drawn);
+        Closed { heap, totals }
     }
 
     /// How many rows it has: one for each event, by names from 1 on.
-    pub fn rows(&self) -> usize
+    pub fn rows(&self) -> u32
         ensures { result ≡ length self.now.rows }
     {
-        self.heap.row_count() as usize
+        self.heap.row_count()
     }
 
     /// The row of a name.
@@ -61,5 +67,12 @@ impl Closed {
             Some(node) => Some((node.rec, node.state)),
             None => None,
         }
+    }
+
+    /// What all its events came to.
+    pub fn totals(&self) -> Totals
+        ensures { result ≡ totals_of self.now }
+    {
+        self.totals
     }
 }

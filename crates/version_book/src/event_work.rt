@@ -3,7 +3,8 @@ ghost use Rattle.std.specs.Prelude.{◌≡◌, ◌≤◌, [], IfOk, IfErr};
 ghost use Rattle.heap_store.specs.Jobs.{IsJob};
 ghost use Rattle.bank_queue.specs.Queue.{IsReadyEvent};
 ghost use Rattle.version_book.specs.Book.{IsOwn};
-ghost use Rattle.version_book.specs.Running.{Worked, Balked, Stopped, Outdone, MadeQueue, ReadyNow};
+ghost use Rattle.heap_store.specs.Stages.{places_now, direct_of};
+ghost use Rattle.version_book.specs.Running.{Worked, Balked, Stopped, MadeOutcome, MadeQueue, ReadyNow, HasMeans};
 
 use bank_queue::{BankJobs, build_event, new_queue, prepare_event};
 use force_engine::{GiveUp, Stack, force_solo};
@@ -21,14 +22,14 @@ pub struct Outcome {
 /// Forces what the event needs, and answers how many places it takes.
 fn make_ready<R: Rows>(heap: &mut R, stack: &mut Stack, job: &EventJob) -> Result<u32, GiveUp>
     requires own { IsOwn (R.view heap.old) }
-    requires small { (R.view heap.old).about.capacity ≤ 4000000 }
     requires empty { stack.old ≡ [] }
     requires job { IsJob (R.view heap.old).seen job.now }
     requires start { job.now.stage ≡ Stage.Start }
     requires kind { job.now.base.kind ≡ Kind.Bankq }
     requires same { job.now.other ≡ job.now.base }
+    requires means { HasMeans (R.view heap.old) job.now }
     ensures ok { IfOk result (λ nodes. ReadyNow (R.view heap.old) (R.view heap.new) job.now nodes) }
-    ensures err { IfErr result (λ cause. Stopped (R.view heap.old) (R.view heap.new) cause) }
+    ensures err { IfErr result (λ cause. Stopped (R.view heap.old) (R.view heap.new) (direct_of job.now) cause) }
     ensures empty { stack.new ≡ [] }
 {
     let mut cursor = Cursor::new();
@@ -49,12 +50,13 @@ fn make_ready<R: Rows>(heap: &mut R, stack: &mut Stack, job: &EventJob) -> Resul
 /// Reserves the places of an event that is ready, and makes its result in them.
 fn make_result<R: Rows>(heap: &mut R, job: &EventJob, nodes: u32) -> Result<Outcome, Full>
     requires own { IsOwn (R.view heap.old) }
-    requires small { (R.view heap.old).about.capacity ≤ 4000000 }
     requires job { IsJob (R.view heap.old).seen job.now }
     requires kind { job.now.base.kind ≡ Kind.Bankq }
     requires ready { IsReadyEvent (R.view heap.old).seen job.now nodes }
-    ensures ok { IfOk result (λ outcome. Outdone (R.view heap.old) (R.view heap.new) job.now outcome) }
-    ensures err { IfErr result (λ refusal. Balked (R.view heap.old) (R.view heap.new) refusal) }
+    requires means { HasMeans (R.view heap.old) job.now }
+    requires few { nodes ≤ places_now job.now }
+    ensures ok { IfOk result (λ outcome. MadeOutcome (R.view heap.old) (R.view heap.new) job.now outcome) }
+    ensures err { IfErr result (λ refusal. Balked (R.view heap.old) (R.view heap.new) (direct_of job.now) refusal) }
 {
     match heap.reserve(nodes) {
         Err(refusal) => Err(refusal),
@@ -76,14 +78,14 @@ pub(crate) fn work<R: Rows>(
     job: &EventJob,
 ) -> Result<Outcome, GiveUp>
     requires own { IsOwn (R.view heap.old) }
-    requires small { (R.view heap.old).about.capacity ≤ 4000000 }
     requires empty { stack.old ≡ [] }
     requires job { IsJob (R.view heap.old).seen job.now }
     requires start { job.now.stage ≡ Stage.Start }
     requires kind { job.now.base.kind ≡ Kind.Bankq }
     requires same { job.now.other ≡ job.now.base }
-    ensures ok { IfOk result (λ outcome. Outdone (R.view heap.old) (R.view heap.new) job.now outcome) }
-    ensures err { IfErr result (λ cause. Stopped (R.view heap.old) (R.view heap.new) cause) }
+    requires means { HasMeans (R.view heap.old) job.now }
+    ensures ok { IfOk result (λ outcome. MadeOutcome (R.view heap.old) (R.view heap.new) job.now outcome) }
+    ensures err { IfErr result (λ cause. Stopped (R.view heap.old) (R.view heap.new) (direct_of job.now) cause) }
     ensures empty { stack.new ≡ [] }
 {
     match make_ready(heap, stack, job) {
@@ -98,9 +100,9 @@ pub(crate) fn work<R: Rows>(
 /// The work of `new bankq`.
 pub(crate) fn make_queue<R: Rows>(heap: &mut R) -> Result<Outcome, GiveUp>
     requires own { IsOwn (R.view heap.old) }
-    requires small { (R.view heap.old).about.capacity ≤ 4000000 }
+    requires places { 1 ≤ (R.view heap.old).hand.allowance }
     ensures ok { IfOk result (λ outcome. MadeQueue (R.view heap.old) (R.view heap.new) outcome) }
-    ensures err { IfErr result (λ cause. Stopped (R.view heap.old) (R.view heap.new) cause) }
+    ensures err { IfErr result (λ cause. Stopped (R.view heap.old) (R.view heap.new) 1 cause) }
 {
     match heap.reserve(1) {
         Err(refusal) => Err(GiveUp::Full(refusal)),

@@ -1,9 +1,13 @@
 //! The row of one event: begun, skipped and ended, word by word.
 ghost use Rattle.std.specs.Prelude.{◌≡◌, ◌<◌, ◌≤◌, true, false, Some};
+ghost use Rattle.lazy_rec.specs.declared.limits.TheConstants.{MOST_DRAWN, MOST_PLACES};
 ghost use Rattle.lazy_rec.specs.declared.events.Event.{Event};
+ghost use Rattle.heap_store.specs.Legal.{reply_in_range};
 ghost use Rattle.heap_store.specs.Rows.{Row, row_at, store_word};
 ghost use Rattle.heap_store.specs.Rows.Ending.{answered, full, memory};
-ghost use Rattle.version_book.specs.Book.{MayPut, WordPut, IsDrawn, IsNextEvent, MayBegin, Begun, MayEndRow, Ended, IsWorking, Answers, begun_row, ended_row, skipped_row, HasLostBase};
+ghost use Rattle.heap_store.specs.Budget.{direct_at};
+ghost use Rattle.heap_store.specs.Causes.{IsFullCause, given_back_count};
+ghost use Rattle.version_book.specs.Book.{MayPut, WordPut, ReplyPut, IsDrawn, IsNextEvent, MayBegin, Begun, MayEndRow, RowEnded, IsWorking, Answers, begun_row, ended_row, skipped_row, HasLostBase};
 
 use crate::words::{
     FULL, MEMORY, NO_BASE, REPLIED, bases_word, first_word, full_word, reply_word, version_word,
@@ -11,7 +15,7 @@ use crate::words::{
 use heap_store::{Full, Heap, Rows, Version};
 use lazy_rec::{Event, Reply};
 
-/// Stores one of words 1 to 4, which says nothing before word 0 or the end word does.
+/// Stores another word than the first and the end word. It says nothing before they do.
 fn put_word<R: Rows>(heap: &mut R, name: u32, word: u32, value: u64)
     requires { MayPut (R.view heap.old) name word value }
     ensures { WordPut (R.view heap.old) (R.view heap.new) name word value }
@@ -26,24 +30,37 @@ pub(crate) fn begin<R: Rows>(heap: &mut R, name: u32, event: &Event)
     ensures { Begun (R.view heap.old) (R.view heap.new) name event.now }
 {
     put_word(heap, name, 1, bases_word(event.base, event.other));
-    put_word(heap, name, 2, u64::from(event.arg));
+    put_word(heap, name, 2, event.arg);
     heap.store_row(name, 0, first_word(0, event.op, true));
 }
 
 /// Stores the end word.
 fn end_row<R: Rows>(heap: &mut R, name: u32, code: u64)
     requires { MayEndRow (R.view heap.old) name code }
-    ensures { (r : Row) → row_at (store_word (R.view heap.old).seen name 5 code) name ≡ Some r → Ended (R.view heap.old) (R.view heap.new) name r }
+    ensures { (r : Row) → row_at (store_word (R.view heap.old).seen name 5 code) name ≡ Some r → RowEnded (R.view heap.old) (R.view heap.new) name r }
 {
     heap.store_row(name, 5, code);
+}
+
+/// Stores a reply: word 4, and word 7 where it is a number.
+fn put_reply<R: Rows>(heap: &mut R, name: u32, reply: Reply)
+    requires { IsWorking (R.view heap.old) name false }
+    ensures put { ReplyPut (R.view heap.old) (R.view heap.new) name reply }
+    ensures range { reply_in_range reply ≡ true }
+{
+    put_word(heap, name, 4, reply_word(reply));
+    let Reply::Number(number) = reply else {
+        return;
+    };
+    put_word(heap, name, 7, number);
 }
 
 /// Ends the event with a reply and its version.
 pub(crate) fn end_with_reply<R: Rows>(heap: &mut R, reply: Reply, version: Version)
     requires working { IsWorking (R.view heap.old) version.name false }
     requires answers { (e : Event) → row_at (R.view heap.old).seen version.name ≡ Some (begun_row e) → Answers (R.view heap.old).seen e reply version }
-    requires place { version.root.0 < 4194304 }
-    ensures { (e : Event) → row_at (R.view heap.old).seen version.name ≡ Some (begun_row e) → Ended (R.view heap.old) (R.view heap.new) version.name (ended_row e (answered reply version)) }
+    requires place { version.root.0 < MOST_PLACES }
+    ensures { (e : Event) → row_at (R.view heap.old).seen version.name ≡ Some (begun_row e) → RowEnded (R.view heap.old) (R.view heap.new) version.name (ended_row e (answered reply version None)) }
 {
     let name = version.name;
     put_word(
@@ -52,7 +69,7 @@ pub(crate) fn end_with_reply<R: Rows>(heap: &mut R, reply: Reply, version: Versi
         3,
         version_word(version.root, version.kind, version.size),
     );
-    put_word(heap, name, 4, reply_word(reply));
+    put_reply(heap, name, reply);
     end_row(heap, name, REPLIED);
 }
 
@@ -60,9 +77,9 @@ pub(crate) fn end_with_reply<R: Rows>(heap: &mut R, reply: Reply, version: Versi
 pub(crate) fn end_full<R: Rows>(heap: &mut R, name: u32, refusal: Full)
     requires working { IsWorking (R.view heap.old) name true }
     requires last { refusal ≡ (R.view heap.old).refusals.last }
-    requires drawn { refusal.drawn ≤ 260000000 }
-    requires wanted { 1 ≤ refusal.wanted }
-    ensures { (e : Event) → row_at (R.view heap.old).seen name ≡ Some (begun_row e) → Ended (R.view heap.old) (R.view heap.new) name (ended_row e (full refusal.drawn refusal.wanted)) }
+    requires drawn { refusal.drawn ≤ MOST_DRAWN }
+    requires cause { IsFullCause (R.view heap.old).seen (direct_at (R.view heap.old).seen name) refusal.wanted }
+    ensures { (e : Event) → row_at (R.view heap.old).seen name ≡ Some (begun_row e) → RowEnded (R.view heap.old) (R.view heap.new) name (ended_row e (full refusal.drawn refusal.wanted)) }
 {
     put_word(heap, name, 4, full_word(refusal));
     end_row(heap, name, FULL);
@@ -70,8 +87,9 @@ pub(crate) fn end_full<R: Rows>(heap: &mut R, name: u32, refusal: Full)
 
 /// Ends the event without a version for want of memory.
 pub(crate) fn end_for_memory<R: Rows>(heap: &mut R, name: u32)
-    requires { IsWorking (R.view heap.old) name false }
-    ensures { (e : Event) → row_at (R.view heap.old).seen name ≡ Some (begun_row e) → Ended (R.view heap.old) (R.view heap.new) name (ended_row e memory) }
+    requires working { IsWorking (R.view heap.old) name false }
+    requires cause { 64 ≤ given_back_count (R.view heap.old).seen }
+    ensures { (e : Event) → row_at (R.view heap.old).seen name ≡ Some (begun_row e) → RowEnded (R.view heap.old) (R.view heap.new) name (ended_row e memory) }
 {
     end_row(heap, name, MEMORY);
 }
@@ -79,12 +97,12 @@ pub(crate) fn end_for_memory<R: Rows>(heap: &mut R, name: u32)
 /// Stores that an event was skipped, since one of its bases is given up.
 pub(crate) fn skip<R: Rows>(heap: &mut R, name: u32, event: &Event)
     requires drawn { IsDrawn (R.view heap.old) name }
-    requires event { IsNextEvent (R.view heap.old) name event.now }
+    requires event { IsNextEvent name event.now }
     requires lost { HasLostBase (R.view heap.old) event.now }
-    ensures { Ended (R.view heap.old) (R.view heap.new) name (skipped_row event.now) }
+    ensures { RowEnded (R.view heap.old) (R.view heap.new) name (skipped_row event.now) }
 {
     put_word(heap, name, 1, bases_word(event.base, event.other));
-    put_word(heap, name, 2, u64::from(event.arg));
+    put_word(heap, name, 2, event.arg);
     heap.store_row(name, 0, first_word(0, event.op, false));
     end_row(heap, name, NO_BASE);
 }

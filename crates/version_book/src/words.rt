@@ -1,12 +1,16 @@
-//! The six words of a row: what they are for an event and its end, and what they tell.
-ghost use Rattle.std.specs.Prelude.{◌≡◌, ◌+◌, ◌*◌, ◌/◌, ◌%◌, ◌^◌, ◌<◌, ◌≤◌, true, Some, is_some, slice_get};
-ghost use Rattle.heap_store.specs.Rows.{all_kinds, op_of_number, reply_of_word, version_of_word};
+//! The eight words of a row: what they are for an event and its end, and what they tell.
+ghost use Rattle.std.specs.Prelude.{◌≡◌, ℕ, ◌+◌, ◌*◌, ◌/◌, ◌%◌, ◌^◌, ◌<◌, ◌≤◌, true, Some, is_some, slice_get};
+ghost use Rattle.lazy_rec.specs.declared.limits.TheConstants.{MOST_DRAWN, MOST_PLACES};
+ghost use Rattle.lazy_rec.specs.Numbering.{kind_of_number, op_of_number};
+ghost use Rattle.lazy_rec.specs.History.{second_mark};
+ghost use Rattle.heap_store.specs.Rows.{reply_of_words, version_of_word, second_of_word};
 ghost use Rattle.heap_store.specs.Legal.{reply_in_range};
 ghost use Rattle.heap_store.specs.RowCalls.{is_word_value};
-ghost use Rattle.version_book.specs.Words.{IsFirstWord, IsBasesWord, IsVersionWord};
+ghost use Rattle.version_book.specs.Words.{AreReplyWords, number_after, IsFirstWord, IsBasesWord, IsVersionWord};
 
 use heap_store::{Full, Version};
-use lazy_rec::{Kind, Op, Ref, Reply};
+use lazy_rec::events::{number_tells_kind, number_tells_op};
+use lazy_rec::{Kind, Op, Ref, Reply, SECOND};
 
 /// The end word of a row that ended with a reply.
 pub const REPLIED: u64 = 1;
@@ -18,116 +22,44 @@ pub const MEMORY: u64 = 3;
 pub const NO_BASE: u64 = 4;
 
 /// The number of a kind, from 0.
+#[inline]
 fn kind_number(kind: Kind) -> u64
-    ensures number { slice_get all_kinds result ≡ Some kind }
+    ensures number { kind_of_number result ≡ Some kind }
     ensures small { result < 8 }
 {
-    match kind {
-        Kind::Stream => 0,
-        Kind::Bankq => 1,
-        Kind::Rtq => 2,
-        Kind::Heap => 3,
-        Kind::Seq => 4,
-        Kind::Prio => 5,
-        Kind::Ord => 6,
-        Kind::Cat => 7,
-    }
+    number_tells_kind(kind);
+    u64::from(kind.number())
 }
 
 /// The number of an operation in word 0.
+#[inline]
 fn op_number(op: Op) -> u64
     ensures number { op_of_number result ≡ Some op }
     ensures small { result < 64 }
 {
-    match op {
-        Op::Size => 1,
-        Op::Cons => 2,
-        Op::Snoc => 3,
-        Op::Append => 4,
-        Op::Reverse => 5,
-        Op::Head => 6,
-        Op::Tail => 7,
-        Op::Insert => 8,
-        Op::Min => 9,
-        Op::Delmin => 10,
-        Op::Meld => 11,
-        Op::Max => 12,
-        Op::Delmax => 13,
-        Op::Pushl => 14,
-        Op::Pushr => 15,
-        Op::Popl => 16,
-        Op::Popr => 17,
-        Op::First => 18,
-        Op::Last => 19,
-        Op::Nth => 20,
-        Op::Take => 21,
-        Op::Drop => 22,
-        Op::Concat => 23,
-        Op::Has => 24,
-        Op::Remove => 25,
-        Op::Upto => 26,
-        Op::New(Kind::Stream) => 32,
-        Op::New(Kind::Bankq) => 33,
-        Op::New(Kind::Rtq) => 34,
-        Op::New(Kind::Heap) => 35,
-        Op::New(Kind::Seq) => 36,
-        Op::New(Kind::Prio) => 37,
-        Op::New(Kind::Ord) => 38,
-        Op::New(Kind::Cat) => 39,
-    }
+    number_tells_op(op);
+    u64::from(op.number())
 }
 
-/// The operations in the order of their numbers, from 1.
-const OPS: [Op; 26] = [
-    Op::Size,
-    Op::Cons,
-    Op::Snoc,
-    Op::Append,
-    Op::Reverse,
-    Op::Head,
-    Op::Tail,
-    Op::Insert,
-    Op::Min,
-    Op::Delmin,
-    Op::Meld,
-    Op::Max,
-    Op::Delmax,
-    Op::Pushl,
-    Op::Pushr,
-    Op::Popl,
-    Op::Popr,
-    Op::First,
-    Op::Last,
-    Op::Nth,
-    Op::Take,
-    Op::Drop,
-    Op::Concat,
-    Op::Has,
-    Op::Remove,
-    Op::Upto,
-];
-
-/// The kinds in the order of their numbers, from 0.
-const KINDS: [Kind; 8] = [
-    Kind::Stream,
-    Kind::Bankq,
-    Kind::Rtq,
-    Kind::Heap,
-    Kind::Seq,
-    Kind::Prio,
-    Kind::Ord,
-    Kind::Cat,
-];
+/// The kind with a number.
+fn kind_of(number: u64) -> Kind
+    requires { is_some (kind_of_number number) ≡ true }
+    ensures { kind_of_number number ≡ Some result }
+{
+    match Kind::of_number(number as u32) {
+        Some(kind) => kind,
+        None => unreachable!(),
+    }
+}
 
 /// The operation with a number.
 pub(crate) fn op_of(number: u64) -> Op
     requires { is_some (op_of_number number) ≡ true }
     ensures { op_of_number number ≡ Some result }
 {
-    if number >= 32 {
-        Op::New(KINDS[(number - 32) as usize])
-    } else {
-        OPS[(number - 1) as usize]
+    match Op::of_number(number as u32) {
+        Some(op) => op,
+        None => unreachable!(),
     }
 }
 
@@ -153,16 +85,16 @@ pub fn bases_word(base: u32, other: u32) -> u64
 
 /// Word 3: the root's place, from bit 22 on the kind's number, and from bit 32 on the size.
 pub fn version_word(root: Ref, kind: Kind, size: u32) -> u64
-    requires place { root.0 < 4194304 }
+    requires place { root.0 < MOST_PLACES }
     requires size { size < 2147483648 }
     ensures { IsVersionWord result root kind size }
 {
     u64::from(root.0) + (kind_number(kind) << 22) + (u64::from(size) << 32)
 }
 
-/// Word 4 of a row that ended with a reply.
+/// Word 4 of a row that ended with a reply. Word 7 has the number where it is one.
 pub fn reply_word(reply: Reply) -> u64
-    ensures reply { reply_of_word result ≡ reply }
+    ensures words { (before : ℕ) → AreReplyWords result (number_after reply before) reply }
     ensures range { reply_in_range reply ≡ true }
     ensures fits { is_word_value 4 result ≡ true }
 {
@@ -170,13 +102,13 @@ pub fn reply_word(reply: Reply) -> u64
         Reply::Ok => 0,
         Reply::Empty => 1,
         Reply::TooLong => 2,
-        Reply::Number(n) => 3 + 8 * u64::from(n),
+        Reply::Number(_) => 3,
     }
 }
 
 /// Word 4 of a row that ended full: the drawn number, and from bit 32 on the wanted one.
 pub fn full_word(full: Full) -> u64
-    requires { full.drawn ≤ 260000000 }
+    requires { full.drawn ≤ MOST_DRAWN }
     ensures drawn { result % 2 ^ 32 ≡ full.drawn }
     ensures wanted { result / 2 ^ 32 ≡ full.wanted }
     ensures fits { is_word_value 4 result ≡ true }
@@ -184,32 +116,43 @@ pub fn full_word(full: Full) -> u64
     full.drawn + (u64::from(full.wanted) << 32)
 }
 
-/// The version of a name that word 3 tells.
+/// The first version of a name, by word 3.
 pub fn version_of(name: u32, word: u64) -> Version
     requires { is_some (version_of_word name word) ≡ true }
     ensures { version_of_word name word ≡ Some result }
 {
     Version {
         name,
-        kind: KINDS[((word >> 22) % 1024) as usize],
+        kind: kind_of((word >> 22) % 1024),
         size: (word >> 32) as u32,
         root: Ref((word % 4_194_304) as u32),
     }
 }
 
-/// The reply that word 4 tells.
-pub fn reply_of(word: u64) -> Reply
-    requires { reply_in_range (reply_of_word word) ≡ true }
-    ensures { result ≡ reply_of_word word }
+/// The second version of a name, by word 6, where there is one. It has the first one's kind.
+pub fn second_version(name: u32, word: u64, first: &Version) -> Option<Version>
+    requires { name < second_mark }
+    ensures { result ≡ second_of_word name word first.now }
 {
-    let tag = word % 8;
-    if tag == 3 {
-        Reply::Number((word >> 3) as u32)
-    } else if tag == 1 {
-        Reply::Empty
-    } else if tag == 2 {
-        Reply::TooLong
-    } else {
-        Reply::Ok
+    if word == 0 {
+        return None;
+    }
+    Some(Version {
+        name: name + SECOND,
+        kind: first.kind,
+        size: (word / 0x1_0000_0000) as u32,
+        root: Ref((word % 0x1_0000_0000) as u32),
+    })
+}
+
+/// The reply that words 4 and 7 tell.
+pub fn reply_of(word: u64, number: u64) -> Reply
+    ensures { result ≡ reply_of_words word number }
+{
+    match word {
+        1 => Reply::Empty,
+        2 => Reply::TooLong,
+        3 => Reply::Number(number),
+        _ => Reply::Ok,
     }
 }

@@ -6,7 +6,7 @@ pub version_word-requires-clause-size : goal.version_word-requires-clause-size
 version_word-requires-clause-size g c = ltb-true _ _ (c.requires.answers c.requires.working.event c.requires.working.here).in_range
 
 pub end_row-requires : goal.end_row-requires
-end_row-requires g c = reply_may _ _ _ _ _ c.args.reply c.args.version c.requires.working c.put_word.ensures c.put_word-2.ensures c.version_word.ensures c.reply_word.ensures.reply (g.met.R.Heap.lawful c.put_word-2.new.heap) c.reply_word.ensures.range (c.requires.answers c.requires.working.event c.requires.working.here)
+end_row-requires g c = reply_may _ _ _ _ c.args.reply c.args.version c.requires.working c.put_word.ensures c.put_reply.ensures.put c.version_word.ensures (g.met.R.Heap.lawful c.put_reply.new.heap) c.put_reply.ensures.range (c.requires.answers c.requires.working.event c.requires.working.here)
 
 pub returns : goal.returns
-returns g c e here = reply_done _ _ _ _ _ c.args.reply c.args.version c.requires.working c.put_word.ensures c.put_word-2.ensures c.version_word.ensures c.reply_word.ensures.reply (g.met.R.Heap.lawful c.put_word-2.new.heap) _ c.end_row.ensures e here
+returns g c e here = reply_done _ _ _ _ c.args.reply c.args.version c.requires.working c.put_word.ensures c.put_reply.ensures.put c.version_word.ensures (g.met.R.Heap.lawful c.put_reply.new.heap) _ c.end_row.ensures e here

@@ -8,7 +8,7 @@ use Rattle.version_book.proofs.solo.solo_book.Goals as goal
 
 pub loop-event-init : goal.loop-event-init
 loop-event-init c = record {
-  run = subst (λ (v : View). AreRun c.args.nodes c.args.events.now 0 v) (sym c.in_ok-heap.ensures) (none-run c.args.nodes c.args.events.now c.requires.nodes);
+  run = subst (λ (v : View). AreRun c.args.nodes c.args.events.now 0 v) (sym c.in_ok-heap.ensures) (none-run c.args.nodes c.args.events.now);
   empty = c.in_ok-stack.ensures;
 }
 
@@ -25,9 +25,9 @@ run_event-requires-clause-empty c = c.loop-event.invariant.empty
 
 pub loop-event-preserved : goal.loop-event-preserved
 loop-event-preserved c = record {
-  run = one-more c.args.nodes c.args.events.now c.requires.script c.requires.queues c.loop-event.event-index (view_of c.loop-event.heap) c.loop-event.invariant.run
-      (view_of c.run_event.new.heap) _ (c.loop-event.event-index + 1) (omega arith)
-      (slice_get-get_or c.args.events.now c.loop-event.event-index _ c.loop-event-test.true) c.argument.ensures.small c.run_event.ensures.ran;
+  run = one-more c.args.nodes c.args.events.now c.requires.script c.requires.queues c.loop-event.event-index (view_of c.loop-event.heap) c.loop-event.invariant.run c.loop-event.heap.law
+      (view_of c.run_event.new.heap) c.run_event.new.heap.law _ (c.loop-event.event-index + 1) (omega arith)
+      (slice_get-get_or c.args.events.now c.loop-event.event-index _ c.loop-event-test.true) c.run_event.ensures.ran;
   empty = c.run_event.ensures.empty;
 }
 

@@ -6,10 +6,10 @@ use Rattle.version_book.proofs.closed.Closed.row.Goals as goal
 pub words-requires : goal.words-requires
 words-requires c =
     let high : c.args.name ≤ length (view_of c.self.inside.heap).seen.rows = rw (← c.self.view_is) at c.requires.high in
-    record { low = c.requires.low; high = omega (arith, high, c.self.invariant.named) }
+    record { low = c.requires.low; high = omega (arith, high, c.self.invariant.whole.named) }
 
 pub row_of-requires : goal.row_of-requires
 row_of-requires c =
     let high : c.args.name ≤ length (view_of c.self.inside.heap).seen.rows = rw (← c.self.view_is) at c.requires.high in
     let P : List ℕ → Type 0 = IsReadable c.args.name in
-    subst P (sym c.words.ensures) (c.self.invariant.closed.readable c.args.name c.requires.low high)
+    subst P (sym c.words.ensures) (c.self.invariant.whole.closed.readable c.args.name c.requires.low high)
