@@ -98,15 +98,15 @@ pub record IsStep (ds : List ℕ) (i v : ℕ) : Type 0 where
   pub low : 48 ≤ get_or ds i 0
   pub high : get_or ds i 0 ≤ 57
   pub value : v * 10 + (get_or ds i 0 - 48) ≡ digits_value 10 (take (i + 1) ds)
-  pub small : v * 10 + (get_or ds i 0 - 48) < 10000000000
+  pub small : v * 10 + (get_or ds i 0 - 48) < 100000000000000000000
 
-pub one_more : (ds : List ℕ) (i v : ℕ) → list_all is_ascii_digit ds ≡ true → length ds ≤ 10 → i < length ds → v ≡ digits_value 10 (take i ds) → IsStep ds i v
+pub one_more : (ds : List ℕ) (i v : ℕ) → list_all is_ascii_digit ds ≡ true → length ds ≤ 20 → i < length ds → v ≡ digits_value 10 (take i ds) → IsStep ds i v
 one_more ds i v all short lt is =
     let read = digit_read _ (digit_at ds i all lt) in
     let more = digits_value_more 10 ds i lt in
     let upto = digits_value-take-le 10 ds (i + 1) (lit≤ tt) in
     let below = digits_value-lt 10 ds (all_digits ds all) in
-    let most : 10 ^ length ds ≤ 10000000000 = pow-le-pow_right (lit< tt) short in
+    let most : 10 ^ length ds ≤ 100000000000000000000 = pow-le-pow_right (lit< tt) short in
     record {
       low = read.0;
       high = read.1;

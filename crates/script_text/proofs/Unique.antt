@@ -1,82 +1,83 @@
 -- There is one answer.
-use Rattle.std.proofs.Common.{◌≡◌, ℕ, List, [], ◌∷◌, ◌++◌, Err, refl, sym, ap, ap₂, subst, ◌∙◌, inl, inr, append_assoc}
-use Rattle.std.proofs.lemmas.List.{append-nil}
-use Rattle.std.proofs.lemmas.Bool.{both_ways}
+use Rattle.std.proofs.Common.{◌≡◌, ℕ, List, [], ◌∷◌, ◌++◌, Some, sym, ap, subst, ◌∙◌, inl, inr}
 use Rattle.lazy_rec.specs.declared.events.Event.{Event}
+use Rattle.script_text.specs.declared.model.Form.{Form}
 use Rattle.script_text.specs.declared.model.Reason.{Reason}
 use Rattle.script_text.specs.Lines.{lines_of}
-use Rattle.script_text.specs.Events.{event_at}
-use Rattle.script_text.specs.Text.{EventLine, AreEvents, IsText, IsFirstFault, begins_well, body}
+use Rattle.script_text.specs.Events.{ScriptView}
+use Rattle.script_text.specs.Text.{EventLine, Before, Leads, IsEventOf, IsNoEvent, IsText, IsFirst, IsFirstFault, form_of, nothing, after, body}
 
-pub same_events : (before : List Event) (ls : List EventLine) (es fs : List Event) → AreEvents before ls es → AreEvents before ls fs → es ≡ fs
-same_events before [] [] [] h k = refl
-same_events before [] [] (f ∷ fs) h k = absurd k
-same_events before [] (e ∷ es) fs h k = absurd h
-same_events before (l ∷ ls) [] fs h k = absurd h
-same_events before (l ∷ ls) (e ∷ es) [] h k = absurd k
-same_events before (l ∷ ls) (e ∷ es) (f ∷ fs) h k =
-    let one : e ≡ f = let p = h.0 in let q = k.0 in cc in
-    let k' : AreEvents (before ++ e ∷ []) ls fs = subst (λ g. AreEvents (before ++ g ∷ []) ls fs) (sym one) k.1 in
-    ap₂ (λ g gs. g ∷ gs) one (same_events (before ++ e ∷ []) ls es fs h.1 k')
+-- a line is of one event, or for one reason of none
+one_event : (b : Before) (l : EventLine) (e f : Event) → IsEventOf b l e → IsEventOf b l f → e ≡ f
+one_event b l e f h k = cc
 
--- the events before a faulty line, one more of them counted as before
-abbrev pub FailsAfter : List Event → EventLine → Reason → Type 0
-FailsAfter before l r = event_at before l.first l.others ≡ Err r
+one_reason : (b : Before) (l : EventLine) (r s : Reason) → IsNoEvent b l r → IsNoEvent b l s → r ≡ s
+one_reason b l r s h k = cc
 
-pub fails_first : (before : List Event) (l : EventLine) (r : Reason) → FailsAfter (before ++ []) l r → FailsAfter before l r
-fails_first before l r = subst (λ es. FailsAfter es l r) (append-nil before)
+event_or_fault : (b : Before) (l : EventLine) (e : Event) (r : Reason) → IsEventOf b l e → IsNoEvent b l r → ⊥
+event_or_fault b l e r h k = cc
 
-pub fails_more : (before : List Event) (e : Event) (es : List Event) (l : EventLine) (r : Reason) → FailsAfter (before ++ e ∷ es) l r → FailsAfter ((before ++ e ∷ []) ++ es) l r
-fails_more before e es l r = subst (λ fs. FailsAfter fs l r) (sym (append_assoc before (e ∷ []) es))
+-- lines lead to one end
+pub leads_one : (b : Before) (ls : List EventLine) (c d : Before) → Leads b ls c → Leads b ls d → c ≡ d
+leads_one b [] c d h k = sym h ∙ k
+leads_one b (l ∷ ls) c d h k =
+    let one = one_event b l h.0 k.0 h.1 k.1 in
+    leads_one (after b l h.0) ls c d h.2 (subst (λ e. Leads (after b l e) ls d) (sym one) k.2)
 
-pub no_fault : (before : List Event) (good : List EventLine) (bad : EventLine) (more : List EventLine) (es all : List Event) (r : Reason) → AreEvents before good es → FailsAfter (before ++ es) bad r → AreEvents before (good ++ bad ∷ more) all → ⊥
-no_fault before [] bad more [] [] r h b k = k
-no_fault before [] bad more [] (a ∷ all) r h b k = let p = k.0 in let q = fails_first before bad r b in cc
-no_fault before [] bad more (e ∷ es) all r h b k = h
-no_fault before (g ∷ good) bad more [] all r h b k = h
-no_fault before (g ∷ good) bad more (e ∷ es) [] r h b k = k
-no_fault before (g ∷ good) bad more (e ∷ es) (a ∷ all) r h b k =
-    let one : e ≡ a = let p = h.0 in let q = k.0 in cc in
-    let k' : AreEvents (before ++ e ∷ []) (good ++ bad ∷ more) all = subst (λ x. AreEvents (before ++ x ∷ []) (good ++ bad ∷ more) all) (sym one) k.1 in
-    no_fault (before ++ e ∷ []) good bad more es all r h.1 (fails_more before e es bad r b) k'
+no_fault : (b : Before) (good : List EventLine) (bad : EventLine) (more : List EventLine) (c d : Before) (r : Reason) → Leads b good c → IsNoEvent c bad r → Leads b (good ++ bad ∷ more) d → ⊥
+no_fault b [] bad more c d r h f k = event_or_fault b bad k.0 r k.1 (subst (λ x. IsNoEvent x bad r) (sym h) f)
+no_fault b (g ∷ good) bad more c d r h f k =
+    let one = one_event b g h.0 k.0 h.1 k.1 in
+    no_fault (after b g h.0) good bad more c d r h.2 f (subst (λ e. Leads (after b g e) (good ++ bad ∷ more) d) (sym one) k.2)
 
-pub one_fault : (before : List Event) (good good' : List EventLine) (bad bad' : EventLine) (more more' : List EventLine) (es es' : List Event) (r r' : Reason)
-    → AreEvents before good es → FailsAfter (before ++ es) bad r → AreEvents before good' es' → FailsAfter (before ++ es') bad' r'
-    → good ++ bad ∷ more ≡ good' ++ bad' ∷ more' → (bad ≡ bad') × (r ≡ r')
-one_fault before [] [] bad bad' more more' [] [] r r' h b h' b' e = let same : bad ≡ bad' = cc in let p = fails_first before bad r b in let q = fails_first before bad' r' b' in (same, cc)
-one_fault before [] [] bad bad' more more' [] (f ∷ fs) r r' h b h' b' e = absurd h'
-one_fault before [] [] bad bad' more more' (f ∷ fs) es' r r' h b h' b' e = absurd h
-one_fault before [] (g ∷ good') bad bad' more more' [] [] r r' h b h' b' e = absurd h'
-one_fault before [] (g ∷ good') bad bad' more more' [] (f ∷ fs) r r' h b h' b' e = let same : bad ≡ g = cc in let p = h'.0 in let q = fails_first before bad r b in cc
-one_fault before [] (g ∷ good') bad bad' more more' (f ∷ fs) es' r r' h b h' b' e = absurd h
-one_fault before (g ∷ good) [] bad bad' more more' [] es' r r' h b h' b' e = absurd h
-one_fault before (g ∷ good) [] bad bad' more more' (f ∷ fs) [] r r' h b h' b' e = let same : g ≡ bad' = cc in let p = h.0 in let q = fails_first before bad' r' b' in cc
-one_fault before (g ∷ good) [] bad bad' more more' (f ∷ fs) (f' ∷ fs') r r' h b h' b' e = absurd h'
-one_fault before (g ∷ good) (g' ∷ good') bad bad' more more' [] es' r r' h b h' b' e = absurd h
-one_fault before (g ∷ good) (g' ∷ good') bad bad' more more' (f ∷ fs) [] r r' h b h' b' e = absurd h'
-one_fault before (g ∷ good) (g' ∷ good') bad bad' more more' (f ∷ fs) (f' ∷ fs') r r' h b h' b' e =
+one_fault : (b : Before) (good good' : List EventLine) (bad bad' : EventLine) (more more' : List EventLine) (c c' : Before) (r r' : Reason)
+    → Leads b good c → IsNoEvent c bad r → Leads b good' c' → IsNoEvent c' bad' r' → good ++ bad ∷ more ≡ good' ++ bad' ∷ more' → (bad ≡ bad') × (r ≡ r')
+one_fault b [] [] bad bad' more more' c c' r r' h f h' f' e =
+    let same : bad ≡ bad' = cc in
+    let p = subst (λ x. IsNoEvent x bad r) (sym h) f in
+    let q = subst (λ l. IsNoEvent b l r') (sym same) (subst (λ x. IsNoEvent x bad' r') (sym h') f') in
+    (same, one_reason b bad r r' p q)
+one_fault b [] (g ∷ good') bad bad' more more' c c' r r' h f h' f' e =
+    let same : bad ≡ g = cc in
+    let p = subst (λ l. IsNoEvent b l r) same (subst (λ x. IsNoEvent x bad r) (sym h) f) in
+    absurd (event_or_fault b g h'.0 r h'.1 p)
+one_fault b (g ∷ good) [] bad bad' more more' c c' r r' h f h' f' e =
+    let same : g ≡ bad' = cc in
+    let p = subst (λ l. IsNoEvent b l r') (sym same) (subst (λ x. IsNoEvent x bad' r') (sym h') f') in
+    absurd (event_or_fault b g h.0 r' h.1 p)
+one_fault b (g ∷ good) (g' ∷ good') bad bad' more more' c c' r r' h f h' f' e =
     let same : g ≡ g' = cc in
     let rest : good ++ bad ∷ more ≡ good' ++ bad' ∷ more' = cc in
-    let one : f ≡ f' = let p = h.0 in let q = h'.0 in cc in
-    let k = subst (λ x. AreEvents (before ++ x ∷ []) good' fs') (sym one) h'.1 in
-    let c = subst (λ x. FailsAfter ((before ++ x ∷ []) ++ fs') bad' r') (sym one) (fails_more before f' fs' bad' r' b') in
-    one_fault (before ++ f ∷ []) good good' bad bad' more more' fs fs' r r' h.1 (fails_more before f fs bad r b) k c rest
+    let one = one_event b g h.0 h'.0 h.1 (subst (λ l. IsEventOf b l h'.0) (sym same) h'.1) in
+    let k = subst (λ x. Leads (after b x h'.0) good' c') (sym same) h'.2 in
+    one_fault (after b g h.0) good good' bad bad' more more' c c' r r' h.2 f (subst (λ x. Leads (after b g x) good' c') (sym one) k) f' rest
 
-pub script_or_fault : (bytes : List ℕ) (es : List Event) (n : ℕ) (r : Reason) → IsText bytes es → IsFirstFault bytes n r → ⊥
-script_or_fault bytes es n r h (inl f) = both_ways (begins_well (lines_of bytes)) f.0 h.header
-script_or_fault bytes es n r h (inr f) =
-    let first = f.1 in no_fault [] first.good first.bad first.more first.events es r first.before first.no_event (subst (λ ls. AreEvents [] ls es) first.split h.each)
+-- the form of a header is one
+one_form : (bytes : List ℕ) (f g : Form) → form_of (lines_of bytes) ≡ Some f → form_of (lines_of bytes) ≡ Some g → f ≡ g
+one_form bytes f g h k = cc
 
-pub one_script : (bytes : List ℕ) (es fs : List Event) → IsText bytes es → IsText bytes fs → es ≡ fs
-one_script bytes es fs h k = same_events [] (body bytes) es fs h.each k.each
+pub script_or_fault : (bytes : List ℕ) (s : ScriptView) (n : ℕ) (r : Reason) → IsText bytes s → IsFirstFault bytes n r → ⊥
+script_or_fault bytes s n r h (inl f) = let p = h.header in let q = f.0 in cc
+script_or_fault bytes s n r h (inr f) =
+    let first = f.2 in
+    let end : Before = record { script = s; labels = h.labels } in
+    let k = subst (λ fm. Leads (nothing fm) (body bytes) end) (one_form bytes s.form f.0 h.header f.1) h.leads in
+    no_fault (nothing f.0) first.good first.bad first.more first.before end r first.leads first.no_event (subst (λ ls. Leads (nothing f.0) ls end) first.split k)
+
+pub one_script : (bytes : List ℕ) (s t : ScriptView) → IsText bytes s → IsText bytes t → s ≡ t
+one_script bytes s t h k =
+    let end : Before = record { script = s; labels = h.labels } in
+    let end' : Before = record { script = t; labels = k.labels } in
+    let k' = subst (λ fm. Leads (nothing fm) (body bytes) end') (one_form bytes t.form s.form k.header h.header) k.leads in
+    ap (λ (b : Before). b.script) (leads_one (nothing s.form) (body bytes) end end' h.leads k')
 
 -- the first fault is one
 pub first_fault : (bytes : List ℕ) (l m : ℕ) (r s : Reason) → IsFirstFault bytes l r → IsFirstFault bytes m s → (l ≡ m) × (r ≡ s)
 first_fault bytes l m r s (inl f) (inl g) = (f.1 ∙ sym g.1, f.2 ∙ sym g.2)
-first_fault bytes l m r s (inl f) (inr g) = absurd (both_ways (begins_well (lines_of bytes)) f.0 g.0)
-first_fault bytes l m r s (inr f) (inl g) = absurd (both_ways (begins_well (lines_of bytes)) g.0 f.0)
+first_fault bytes l m r s (inl f) (inr g) = let p = f.0 in let q = g.1 in let no : ⊥ = cc in absurd no
+first_fault bytes l m r s (inr f) (inl g) = let p = f.1 in let q = g.0 in let no : ⊥ = cc in absurd no
 first_fault bytes l m r s (inr f) (inr g) =
-    let a = f.1 in
-    let b = g.1 in
-    let same = one_fault [] a.good b.good a.bad b.bad a.more b.more a.events b.events r s a.before a.no_event b.before b.no_event (sym a.split ∙ b.split) in
-    (sym a.number ∙ (ap (λ line. line.number) same.0 ∙ b.number), same.1)
+    let a = f.2 in
+    let b = subst (λ fm. IsFirst fm (body bytes) m s) (one_form bytes g.0 f.0 g.1 f.1) g.2 in
+    let same = one_fault (nothing f.0) a.good b.good a.bad b.bad a.more b.more a.before b.before r s a.leads a.no_event b.leads b.no_event (sym a.split ∙ b.split) in
+    (sym a.number ∙ (ap (λ (line : EventLine). line.number) same.0 ∙ b.number), same.1)

@@ -1,12 +1,17 @@
--- The words of operations and kinds, by the tables of the code. Both tables follow the order of the types.
-use Rattle.std.specs.Prelude.{ℕ, List, [], ◌∷◌, Option, Some, None, if◌then◌else◌, slice_get, map}
+-- The words of operations and kinds, by the tables of the code. Rows stand in the order of numbers, `new` at 0.
+use Rattle.std.specs.Prelude.{ℕ, Bool, true, false, List, [], ◌∷◌, codes, Option, Some, None, if◌then◌else◌, slice_get, map, take}
 use Rattle.std.specs.Str.{bytes_eq}
+use denote.Ref.{Bor}
 use Rattle.lazy_rec.specs.declared.events.Kind.{Kind}
+use Rattle.lazy_rec.specs.declared.events.Kind.TheVariants as kind_names
 use Rattle.lazy_rec.specs.declared.events.Op.{Op}
 use Rattle.lazy_rec.specs.declared.events.Op.TheVariants as ops
 use Rattle.lazy_rec.specs.Kinds.{kind_number}
-use Rattle.script_text.specs.declared.words.Form.{Form}
-use Rattle.script_text.specs.declared.words.Form.TheVariants as forms
+use Rattle.lazy_rec.specs.Numbering.{op_number}
+use Rattle.script_text.specs.declared.model.Form.{Form}
+use Rattle.script_text.specs.declared.model.Form.TheVariants as forms
+use Rattle.script_text.specs.declared.words.Syntax.{Syntax}
+use Rattle.script_text.specs.declared.words.Syntax.TheVariants as syntax
 use Rattle.script_text.specs.declared.words.TheConstants.{OPERATIONS, KINDS}
 
 -- what a word stands for in a table of words
@@ -14,15 +19,26 @@ abbrev pub look : {X : Type 0} → List ℕ → List (List ℕ × X) → Option 
 look w [] = None
 look w (row ∷ rows) = if bytes_eq w row.0 then Some row.1 else look w rows
 
--- the tables, as contracts see them
-abbrev pub operations : List (List ℕ × Form)
+-- a row of a table, and the two tables, as contracts see them
+abbrev pub said_row : {X : Type 0} → Bor (List ℕ) × X → List ℕ × X
+said_row row = (row.0.now, row.1)
+
+abbrev pub operations : List (List ℕ × Syntax)
 operations = map (λ row. (row.0.now, row.1)) OPERATIONS
 
 abbrev pub kinds : List (List ℕ × Kind)
 kinds = map (λ row. (row.0.now, row.1)) KINDS
 
-abbrev pub form_of : List ℕ → Option Form
-form_of w = look w operations
+-- labels and `split`, the last operation of the table, came with form 2
+abbrev pub has_labels : Form → Bool
+has_labels forms.One = false
+has_labels _ = true
+
+abbrev pub operations_in : Form → List (List ℕ × Syntax)
+operations_in form = if has_labels form then operations else take 27 operations
+
+abbrev pub syntax_of : Form → List ℕ → Option Syntax
+syntax_of form w = look w (operations_in form)
 
 abbrev pub kind_named : List ℕ → Option Kind
 kind_named w = look w kinds
@@ -31,47 +47,29 @@ abbrev pub word_in : {X : Type 0} → Option (List ℕ × X) → List ℕ
 word_in None = []
 word_in (Some row) = row.0
 
-abbrev pub form_in : Option (List ℕ × Form) → Form
-form_in None = forms.New
-form_in (Some row) = row.1
+abbrev pub syntax_in : Option (List ℕ × Syntax) → Syntax
+syntax_in None = syntax.New
+syntax_in (Some row) = row.1
 
--- the number of an operation, from 0
-abbrev pub op_number : Op → ℕ
-op_number (ops.New k) = 0
-op_number ops.Size = 1
-op_number ops.Cons = 2
-op_number ops.Snoc = 3
-op_number ops.Append = 4
-op_number ops.Reverse = 5
-op_number ops.Head = 6
-op_number ops.Tail = 7
-op_number ops.Insert = 8
-op_number ops.Min = 9
-op_number ops.Delmin = 10
-op_number ops.Meld = 11
-op_number ops.Max = 12
-op_number ops.Delmax = 13
-op_number ops.Pushl = 14
-op_number ops.Pushr = 15
-op_number ops.Popl = 16
-op_number ops.Popr = 17
-op_number ops.First = 18
-op_number ops.Last = 19
-op_number ops.Nth = 20
-op_number ops.Take = 21
-op_number ops.Drop = 22
-op_number ops.Concat = 23
-op_number ops.Has = 24
-op_number ops.Remove = 25
-op_number ops.Upto = 26
+-- the row of an operation
+abbrev pub row_of : Op → ℕ
+row_of (ops.New k) = 0
+row_of o = op_number o
 
 -- the word of an operation, and what follows it
 abbrev pub op_word : Op → List ℕ
-op_word o = word_in (slice_get operations (op_number o))
+op_word o = word_in (slice_get operations (row_of o))
 
-abbrev pub op_form : Op → Form
-op_form o = form_in (slice_get operations (op_number o))
+abbrev pub op_syntax : Op → Syntax
+op_syntax o = syntax_in (slice_get operations (row_of o))
 
 -- the word of a kind
 abbrev pub kind_word : Kind → List ℕ
 kind_word k = word_in (slice_get kinds (kind_number k))
+
+-- the words of operations with what follows each, and those of kinds
+abbrev pub said_operations : List (List ℕ × Syntax)
+said_operations = (codes "new", syntax.New) ∷ (codes "size", syntax.Base ops.Size) ∷ (codes "cons", syntax.Argument ops.Cons) ∷ (codes "snoc", syntax.Argument ops.Snoc) ∷ (codes "append", syntax.Other ops.Append) ∷ (codes "reverse", syntax.Base ops.Reverse) ∷ (codes "head", syntax.Base ops.Head) ∷ (codes "tail", syntax.Base ops.Tail) ∷ (codes "insert", syntax.Argument ops.Insert) ∷ (codes "min", syntax.Base ops.Min) ∷ (codes "delmin", syntax.Base ops.Delmin) ∷ (codes "meld", syntax.Other ops.Meld) ∷ (codes "max", syntax.Base ops.Max) ∷ (codes "delmax", syntax.Base ops.Delmax) ∷ (codes "pushl", syntax.Argument ops.Pushl) ∷ (codes "pushr", syntax.Argument ops.Pushr) ∷ (codes "popl", syntax.Base ops.Popl) ∷ (codes "popr", syntax.Base ops.Popr) ∷ (codes "first", syntax.Base ops.First) ∷ (codes "last", syntax.Base ops.Last) ∷ (codes "nth", syntax.Argument ops.Nth) ∷ (codes "take", syntax.Argument ops.Take) ∷ (codes "drop", syntax.Argument ops.Drop) ∷ (codes "concat", syntax.Other ops.Concat) ∷ (codes "has", syntax.Argument ops.Has) ∷ (codes "remove", syntax.Argument ops.Remove) ∷ (codes "upto", syntax.Argument ops.Upto) ∷ (codes "split", syntax.Argument ops.Split) ∷ []
+
+abbrev pub said_kinds : List (List ℕ × Kind)
+said_kinds = (codes "stream", kind_names.Stream) ∷ (codes "bankq", kind_names.Bankq) ∷ (codes "rtq", kind_names.Rtq) ∷ (codes "heap", kind_names.Heap) ∷ (codes "seq", kind_names.Seq) ∷ (codes "prio", kind_names.Prio) ∷ (codes "ord", kind_names.Ord) ∷ (codes "cat", kind_names.Cat) ∷ []

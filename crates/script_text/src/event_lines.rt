@@ -1,56 +1,53 @@
 //! The event of a line.
 ghost use Rattle.std.specs.Prelude.{◌≡◌};
+ghost use Rattle.std.specs.Result.{result_map_both};
 ghost use Rattle.script_text.specs.Lines.{words_of};
-ghost use Rattle.script_text.specs.Events.{kind_before, on_base, on_two, new_event, event_with, event_at};
+ghost use Rattle.script_text.specs.Labels.{names_in};
+ghost use Rattle.script_text.specs.Events.{on_base, on_two, new_event, event_with, labels_line, after_label, event_at};
 
-use crate::lines::{number, one_word, two_words};
-use crate::model::Reason;
+use crate::lines::{begins_with, is_label, next_word, number, one_word, two_words};
+use crate::model::{Form, Reason};
 use crate::script::Script;
-use crate::words::{Form, has, is_same, named_form, named_kind};
-use lazy_rec::{Event, Kind, Op};
-
-// The kind of the event with this number, which is one of those before.
-fn kind_before(before: &Script, base: u32) -> Result<Kind, Reason>
-    ensures { result ≡ kind_before before.now base }
-{
-    if base == 0 || base as usize > before.count() {
-        return Err(Reason::BaseNotEarlier);
-    }
-    Ok(before.kind_of(base))
-}
+use crate::versions::{Labels, Said, kind_before, name_of, said_of, version_of};
+use crate::words::{Syntax, has_labels, named_kind, named_syntax};
+use lazy_rec::limits::MOST_EVENTS;
+use lazy_rec::{Event, Op};
 
 // The event with a base, and no other.
-fn on_base(before: &Script, op: Op, base: u32, arg: u32) -> Result<Event, Reason>
-    ensures { result ≡ on_base before.now op base arg }
+fn on_base(before: &Script, op: Op, base: Said, arg: u64) -> Result<Event, Reason>
+    ensures { result ≡ on_base before.now.events op base arg }
 {
-    let kind = kind_before(before, base)?;
-    if !has(kind, op) {
+    let kind = kind_before(before, base.name)?;
+    let version = version_of(before, base)?;
+    if !kind.has(op) {
         return Err(Reason::NotOfThisKind);
     }
     Ok(Event {
         op,
-        base,
+        base: version,
         other: 0,
         arg,
     })
 }
 
 // The event with two bases.
-fn on_two(before: &Script, op: Op, base: u32, other: u32) -> Result<Event, Reason>
-    ensures { result ≡ on_two before.now op base other }
+fn on_two(before: &Script, op: Op, base: Said, other: Said) -> Result<Event, Reason>
+    ensures { result ≡ on_two before.now.events op base other }
 {
-    let kind = kind_before(before, base)?;
-    let second = kind_before(before, other)?;
-    if !has(kind, op) {
+    let kind = kind_before(before, base.name)?;
+    let second = kind_before(before, other.name)?;
+    let first_version = version_of(before, base)?;
+    let second_version = version_of(before, other)?;
+    if !kind.has(op) {
         return Err(Reason::NotOfThisKind);
     }
-    if !is_same(kind, second) {
+    if kind != second {
         return Err(Reason::TwoKinds);
     }
     Ok(Event {
         op,
-        base,
-        other,
+        base: first_version,
+        other: second_version,
         arg: 0,
     })
 }
@@ -70,42 +67,85 @@ fn new_event(word: &[u8]) -> Result<Event, Reason>
 
 // The event of an operation and the words after it.
 #[tactic(auto, unfolding(crate::specs::Events::event_with))]
-fn event_with(before: &Script, form: Form, rest: &[u8]) -> Result<Event, Reason>
-    ensures { result ≡ event_with before.now form (words_of rest.now) }
+fn event_with(
+    before: &Script,
+    labels: &Labels,
+    syntax: Syntax,
+    rest: &[u8],
+) -> Result<Event, Reason>
+    ensures { result ≡ event_with before.now (names_in labels.now) syntax (words_of rest.now) }
 {
-    match form {
-        Form::New => {
+    let form = before.form_of();
+    match syntax {
+        Syntax::New => {
             let word = one_word(rest).ok_or(Reason::WrongCount)?;
             new_event(word)
         }
-        Form::Base(op) => {
+        Syntax::Base(op) => {
             let word = one_word(rest).ok_or(Reason::WrongCount)?;
-            let base = number(word)?;
+            let said = said_of(form, labels, word)?;
+            let base = said.ok_or(Reason::UnknownLabel)?;
             on_base(before, op, base, 0)
         }
-        Form::Argument(op) => {
+        Syntax::Argument(op) => {
             let (first, second) = two_words(rest).ok_or(Reason::WrongCount)?;
-            let base = number(first)?;
-            let arg = number(second)?;
+            let said = said_of(form, labels, first)?;
+            let arg = number(form, second)?;
+            let base = said.ok_or(Reason::UnknownLabel)?;
             on_base(before, op, base, arg)
         }
-        Form::Other(op) => {
+        Syntax::Other(op) => {
             let (first, second) = two_words(rest).ok_or(Reason::WrongCount)?;
-            let base = number(first)?;
-            let other = number(second)?;
+            let first_said = said_of(form, labels, first)?;
+            let second_said = said_of(form, labels, second)?;
+            let base = first_said.ok_or(Reason::UnknownLabel)?;
+            let other = second_said.ok_or(Reason::UnknownLabel)?;
             on_two(before, op, base, other)
         }
     }
 }
 
+/// Whether a line's first word labels its event.
+pub fn labels_line(form: Form, first: &[u8]) -> bool
+    ensures { result ≡ labels_line form first.now }
+{
+    has_labels(form) && begins_with(first, b'@')
+}
+
+// The first word of the event itself, and what follows it.
+#[tactic(auto, unfolding(crate::specs::Events::after_label))]
+fn after_label<'a>(
+    form: Form,
+    labels: &Labels,
+    first: &'a [u8],
+    rest: &'a [u8],
+) -> Result<(&'a [u8], &'a [u8]), Reason>
+    ensures { result_map_both (λ p. (p.0.now, words_of p.1.now)) (λ e. e) result ≡ after_label form (names_in labels.now) first.now (words_of rest.now) }
+{
+    if !labels_line(form, first) {
+        return Ok((first, rest));
+    }
+    if !is_label(first) || name_of(labels, first).is_some() {
+        return Err(Reason::BadLabel);
+    }
+    next_word(rest).ok_or(Reason::WrongCount)
+}
+
 /// The event of a line with this first word and this rest.
 #[tactic(auto, unfolding(crate::specs::Events::event_at))]
-pub fn event_at(before: &Script, first: &[u8], rest: &[u8]) -> Result<Event, Reason>
-    ensures { result ≡ event_at before.now first.now (words_of rest.now) }
+pub fn event_at(
+    before: &Script,
+    labels: &Labels,
+    first: &[u8],
+    rest: &[u8],
+) -> Result<Event, Reason>
+    ensures { result ≡ event_at before.now (names_in labels.now) first.now (words_of rest.now) }
 {
-    if before.count() >= 200_000 {
+    if before.count() >= MOST_EVENTS as usize {
         return Err(Reason::TooMany);
     }
-    let form = named_form(first).ok_or(Reason::UnknownWord)?;
-    event_with(before, form, rest)
+    let form = before.form_of();
+    let (word, words) = after_label(form, labels, first, rest)?;
+    let syntax = named_syntax(form, word).ok_or(Reason::UnknownWord)?;
+    event_with(before, labels, syntax, words)
 }

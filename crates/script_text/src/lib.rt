@@ -3,14 +3,17 @@
 #![tactic(auto)]
 
 mod event_lines;
+mod generator;
 mod lines;
 mod model;
 mod print;
 mod script;
 #[cfg(test)]
 mod tests;
+mod versions;
 mod words;
 
+pub use generator::generate;
 pub use model::{Reason, ScriptFault};
 pub use print::{canonical_texts, print_script};
 pub use script::{Script, one_reading, read_script};

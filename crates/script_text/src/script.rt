@@ -1,49 +1,74 @@
 //! A script as a value, and its reader.
-ghost use Rattle.std.specs.Prelude.{◌≡◌, ℕ, suc, ◌≤◌, ◌⊎◌, ◌++◌, ◌∷◌, [], List, length, IfOk, Ok, Err, Some};
+ghost use Rattle.std.specs.Prelude.{◌≡◌, ℕ, suc, ◌≤◌, ◌⊎◌, ◌++◌, ◌∷◌, [], List, length, IfOk, OnOk, Ok, Err, Some};
 ghost use Rattle.lazy_rec.specs.History.{event_of, kind_of};
 ghost use Rattle.lazy_rec.specs.declared.events.Event.{Event};
 ghost use Rattle.script_text.specs.Lines.{words_of};
-ghost use Rattle.script_text.specs.Text.{IsText, IsFirstFault, IsWritable, Follows, AreKindsOf, is_header, is_comment};
+ghost use Rattle.script_text.specs.Words.{look};
+ghost use Rattle.script_text.specs.Labels.{names_in};
+ghost use Rattle.script_text.specs.Events.{ScriptView, is_split_at};
+ghost use Rattle.script_text.specs.Text.{IsText, IsFirstFault, IsWritable, Follows, AreKindsOf, events_with, labels_with, form_words, form_said, form_number};
 ghost use Rattle.script_text.specs.declared.model.Reason.{Reason};
 ghost use Rattle.script_text.specs.declared.model.ScriptFault.TheVariants.{Line, NoMemory};
 
-use crate::event_lines::event_at;
-use crate::lines::{next_line, next_word, two_words};
-use crate::model::{Reason, ScriptFault};
+use crate::event_lines::{event_at, labels_line};
+use crate::lines::{begins_with, next_line, next_word, two_words};
+use crate::model::{Form, Reason, ScriptFault};
+use crate::versions::{Labels, keep_label};
 use crate::words::is;
-use lazy_rec::{Event, Kind, Op};
+use lazy_rec::limits::{MOST_EVENTS, MOST_SCRIPT_BYTES};
+use lazy_rec::{Event, Kind, Op, event_name};
 use std::alloc::{AllocError, Global};
+use std::collections::HashMap;
 use std::marker::Model;
 
-/// A list of events that keeps the rules of scripts.
+/// A list of events that keeps the rules of scripts, and the form in which it is written.
 #[derive(Drop)]
 pub struct Script {
+    form: Form,
     events: Vec<Event>,
     kinds: Vec<Kind>,
 }
 
 impl Model for Script {
-    ghost Value = { List Event };
+    ghost use Rattle.script_text.specs.Events.{ScriptView};
+    ghost use Rattle.script_text.specs.Text.{IsWritable, AreKindsOf};
 
-    ghost view = { λ s. s.events.items };
+    ghost Value = { ScriptView };
 
-    ghost invariant = { λ s. IsWritable s.events.items × AreKindsOf s.events.items s.kinds.items };
+    ghost view = { λ s. record { form = s.form; events = s.events.items } };
+
+    ghost invariant = { λ s. IsWritable (record { form = s.form; events = s.events.items }) × AreKindsOf s.events.items s.kinds.items };
 }
 
 impl Script {
     /// The script with no event.
-    pub(crate) fn new(alloc: Global) -> Self
-        ensures { result ≡ [] }
+    pub(crate) fn new(alloc: Global, form: Form) -> Self
+        ensures { result ≡ record { form = form; events = [] } }
     {
         Script {
+            form,
             events: Vec::new(alloc),
             kinds: Vec::new(alloc),
         }
     }
 
+    /// The number of the form: 1, 2 or 3.
+    pub fn form(&self) -> u32
+        ensures { result ≡ form_number self.now.form }
+    {
+        self.form as u32
+    }
+
+    /// The form.
+    pub(crate) fn form_of(&self) -> Form
+        ensures { result ≡ self.now.form }
+    {
+        self.form
+    }
+
     /// The events.
     pub fn events(&self) -> &[Event]
-        ensures same { result.now ≡ self.now }
+        ensures same { result.now ≡ self.now.events }
         ensures rules { IsWritable self.now }
     {
         self.events.as_slice()
@@ -51,44 +76,63 @@ impl Script {
 
     /// The number of events.
     pub(crate) fn count(&self) -> usize
-        ensures { result ≡ length self.now }
+        ensures count { result ≡ length self.now.events }
+        ensures few { result ≤ MOST_EVENTS }
     {
         self.events.len()
     }
 
-    /// The kind of the event with this number, counted from 1.
+    /// The kind of the event with this name, in both versions of a split.
     pub fn kind_of(&self, name: u32) -> Kind
         requires from_one { 1 ≤ name }
-        requires held { name ≤ length self.now }
-        ensures { Some result ≡ kind_of (event_of self.now) name }
+        requires held { name ≤ length self.now.events }
+        ensures { Some result ≡ kind_of (event_of self.now.events) name }
     {
         self.kinds[name as usize - 1]
+    }
+
+    /// Whether the event of a name is a split.
+    pub(crate) fn is_split_at(&self, name: u32) -> bool
+        ensures { result ≡ is_split_at self.now.events name }
+    {
+        if name == 0 {
+            return false;
+        }
+        match self.events.get(name as usize - 1) {
+            Some(event) => matches!(event.op, Op::Split),
+            None => false,
+        }
     }
 
     // The kind that a next event has.
     fn kind_made(&self, event: Event) -> Kind
         requires { Follows self.now event }
-        ensures { Some result ≡ kind_of (event_of (self.now ++ event ∷ [])) (suc (length self.now)) }
+        ensures { Some result ≡ kind_of (event_of (self.now.events ++ event ∷ [])) (suc (length self.now.events)) }
     {
         if let Op::New(kind) = event.op {
             return kind;
         }
-        self.kind_of(event.base)
+        self.kind_of(event_name(event.base))
     }
 
-    // The script with one more event.
-    fn with(self, event: Event) -> Result<Script, AllocError>
+    /// The script with one more event.
+    pub(crate) fn with(self, event: Event) -> Result<Script, AllocError>
         requires { Follows self event }
-        ensures { IfOk result (λ s. s ≡ self ++ event ∷ []) }
+        ensures { IfOk result (λ s. s ≡ events_with self event) }
     {
         let kind = self.kind_made(event);
         let Script {
+            form,
             mut events,
             mut kinds,
         } = self;
         kinds.push(kind)?;
         events.push(event)?;
-        Ok(Script { events, kinds })
+        Ok(Script {
+            form,
+            events,
+            kinds,
+        })
     }
 }
 
@@ -100,53 +144,75 @@ impl From<AllocError> for ScriptFault {
     }
 }
 
-/// Bytes are a text of one list of events at most. They have one first faulty line at most, with one first reason, and
-/// none where they are a text.
+/// Bytes are a text of one script at most. They have one first faulty line at most, with one first reason, and none where
+/// they are a text.
 pub fn one_reading()
-    ensures one { (bytes : List ℕ) (events others : List Event) → IsText bytes events → IsText bytes others → events ≡ others }
-    ensures none { (bytes : List ℕ) (events : List Event) (line : ℕ) (reason : Reason) → IsText bytes events → IsFirstFault bytes line reason → ⊥ }
+    ensures one { (bytes : List ℕ) (s t : ScriptView) → IsText bytes s → IsText bytes t → s ≡ t }
+    ensures none { (bytes : List ℕ) (s : ScriptView) (line : ℕ) (reason : Reason) → IsText bytes s → IsFirstFault bytes line reason → ⊥ }
     ensures first { (bytes : List ℕ) (l m : ℕ) (r s : Reason) → IsFirstFault bytes l r → IsFirstFault bytes m s → (l ≡ m) × (r ≡ s) }
 {}
 
-// Whether a line is the header.
-fn is_header(line: &[u8]) -> bool
-    ensures { result ≡ is_header (words_of line.now) }
+// The form of a number as a word.
+fn form_word(word: &[u8]) -> Option<Form>
+    ensures { result ≡ look word.now form_words }
 {
-    match two_words(line) {
-        Some((first, second)) => is(first, "lazy") && is(second, "1"),
-        None => false,
+    if is(word, "1") {
+        Some(Form::One)
+    } else if is(word, "2") {
+        Some(Form::Two)
+    } else if is(word, "3") {
+        Some(Form::Three)
+    } else {
+        None
     }
 }
 
-// Whether a word begins a comment.
-fn is_comment(word: &[u8]) -> bool
-    ensures { result ≡ is_comment word.now }
+// The form that a header says.
+fn form_said(line: &[u8]) -> Option<Form>
+    ensures { result ≡ form_said (words_of line.now) }
 {
-    match word {
-        [first, ..] => *first == b'#',
-        [] => false,
+    let (first, second) = two_words(line)?;
+    if is(first, "lazy") {
+        form_word(second)
+    } else {
+        None
     }
+}
+
+// The labels with that of a line, if it has one.
+fn with_label<'a>(
+    labels: &mut Labels<'a>,
+    before: &Script,
+    first: &'a [u8],
+) -> Result<(), AllocError>
+    ensures { (kept : List (List ℕ × ℕ)) → ((w : List ℕ) → names_in labels.old w ≡ look w kept) → OnOk result ((w : List ℕ) → names_in labels.new w ≡ look w (labels_with before.now.form first.now (suc (length before.now.events)) kept)) }
+{
+    if labels_line(before.form_of(), first) {
+        keep_label(labels, first, before.count() as u32 + 1)?;
+    }
+    Ok(())
 }
 
 /// Reads a script of at most 16,777,216 bytes.
 pub fn read_script(alloc: Global, bytes: &[u8]) -> Result<Script, ScriptFault>
-    requires { length bytes.now ≤ 16_777_216 }
+    requires { length bytes.now ≤ MOST_SCRIPT_BYTES }
     ensures script { IfOk result (λ s. IsText bytes.now s) }
     ensures fault { (line : ℕ) (reason : Reason) → result ≡ Err (Line line reason) → IsFirstFault bytes.now line reason }
-    ensures each_text { (events : List Event) → IsText bytes.now events → (result ≡ Ok events) ⊎ (result ≡ Err NoMemory) }
+    ensures each_text { (s : ScriptView) → IsText bytes.now s → (result ≡ Ok s) ⊎ (result ≡ Err NoMemory) }
     ensures each_fault { (line : ℕ) (reason : Reason) → IsFirstFault bytes.now line reason → (result ≡ Err (Line line reason)) ⊎ (result ≡ Err NoMemory) }
 {
     let no_header = ScriptFault::Line {
         line: 1,
         reason: Reason::NoHeader,
     };
-    let Some((first, after)) = next_line(bytes) else {
+    let Some((header, after)) = next_line(bytes) else {
         return Err(no_header);
     };
-    if !is_header(first) {
+    let Some(form) = form_said(header) else {
         return Err(no_header);
-    }
-    let mut script = Script::new(alloc);
+    };
+    let mut script = Script::new(alloc, form);
+    let mut labels = HashMap::new(alloc);
     let mut number = 1;
     let mut rest = after;
     while let Some((line, after)) = next_line(rest) {
@@ -155,11 +221,14 @@ pub fn read_script(alloc: Global, bytes: &[u8]) -> Result<Script, ScriptFault>
         let Some((word, words)) = next_word(line) else {
             continue;
         };
-        if is_comment(word) {
+        if begins_with(word, b'#') {
             continue;
         }
-        match event_at(&script, word, words) {
-            Ok(event) => script = script.with(event)?,
+        match event_at(&script, &labels, word, words) {
+            Ok(event) => {
+                with_label(&mut labels, &script, word)?;
+                script = script.with(event)?;
+            }
             Err(reason) => {
                 return Err(ScriptFault::Line {
                     line: number,

@@ -1,14 +1,14 @@
 //! The words of operations and kinds.
-ghost use Rattle.std.specs.Prelude.{◌≡◌, map};
+ghost use Rattle.std.specs.Prelude.{◌≡◌, map, slice_get, option_map};
 ghost use Rattle.std.specs.Str.{bytes_eq};
-ghost use Rattle.lazy_rec.specs.Kinds.{belongs, same_kind};
-ghost use Rattle.script_text.specs.Words.{look, form_of, kind_named, op_number, op_word, op_form, kind_word};
+ghost use Rattle.script_text.specs.Words.{operations, kinds, said_operations, said_kinds, said_row, look, has_labels, syntax_of, kind_named, row_of, op_word, op_syntax, kind_word};
 
+use crate::model::Form;
 use lazy_rec::{Kind, Op};
 
 /// An operation with what follows its word in a line.
 #[derive(Clone, Copy, Debug, PartialEq, Eq)]
-pub enum Form {
+pub enum Syntax {
     /// `new` and a kind.
     New,
     /// The base alone.
@@ -19,38 +19,39 @@ pub enum Form {
     Other(Op),
 }
 
-/// The words of operations.
-pub const OPERATIONS: [(&str, Form); 27] = [
-    ("new", Form::New),
-    ("size", Form::Base(Op::Size)),
-    ("cons", Form::Argument(Op::Cons)),
-    ("snoc", Form::Argument(Op::Snoc)),
-    ("append", Form::Other(Op::Append)),
-    ("reverse", Form::Base(Op::Reverse)),
-    ("head", Form::Base(Op::Head)),
-    ("tail", Form::Base(Op::Tail)),
-    ("insert", Form::Argument(Op::Insert)),
-    ("min", Form::Base(Op::Min)),
-    ("delmin", Form::Base(Op::Delmin)),
-    ("meld", Form::Other(Op::Meld)),
-    ("max", Form::Base(Op::Max)),
-    ("delmax", Form::Base(Op::Delmax)),
-    ("pushl", Form::Argument(Op::Pushl)),
-    ("pushr", Form::Argument(Op::Pushr)),
-    ("popl", Form::Base(Op::Popl)),
-    ("popr", Form::Base(Op::Popr)),
-    ("first", Form::Base(Op::First)),
-    ("last", Form::Base(Op::Last)),
-    ("nth", Form::Argument(Op::Nth)),
-    ("take", Form::Argument(Op::Take)),
-    ("drop", Form::Argument(Op::Drop)),
-    ("concat", Form::Other(Op::Concat)),
-    ("has", Form::Argument(Op::Has)),
-    ("remove", Form::Argument(Op::Remove)),
-    ("upto", Form::Argument(Op::Upto)),
+/// The words of operations, in the order of their numbers, and `new` first.
+pub const OPERATIONS: [(&str, Syntax); 28] = [
+    ("new", Syntax::New),
+    ("size", Syntax::Base(Op::Size)),
+    ("cons", Syntax::Argument(Op::Cons)),
+    ("snoc", Syntax::Argument(Op::Snoc)),
+    ("append", Syntax::Other(Op::Append)),
+    ("reverse", Syntax::Base(Op::Reverse)),
+    ("head", Syntax::Base(Op::Head)),
+    ("tail", Syntax::Base(Op::Tail)),
+    ("insert", Syntax::Argument(Op::Insert)),
+    ("min", Syntax::Base(Op::Min)),
+    ("delmin", Syntax::Base(Op::Delmin)),
+    ("meld", Syntax::Other(Op::Meld)),
+    ("max", Syntax::Base(Op::Max)),
+    ("delmax", Syntax::Base(Op::Delmax)),
+    ("pushl", Syntax::Argument(Op::Pushl)),
+    ("pushr", Syntax::Argument(Op::Pushr)),
+    ("popl", Syntax::Base(Op::Popl)),
+    ("popr", Syntax::Base(Op::Popr)),
+    ("first", Syntax::Base(Op::First)),
+    ("last", Syntax::Base(Op::Last)),
+    ("nth", Syntax::Argument(Op::Nth)),
+    ("take", Syntax::Argument(Op::Take)),
+    ("drop", Syntax::Argument(Op::Drop)),
+    ("concat", Syntax::Other(Op::Concat)),
+    ("has", Syntax::Argument(Op::Has)),
+    ("remove", Syntax::Argument(Op::Remove)),
+    ("upto", Syntax::Argument(Op::Upto)),
+    ("split", Syntax::Argument(Op::Split)),
 ];
 
-/// The words of kinds.
+/// The words of kinds, in the order of their numbers.
 pub const KINDS: [(&str, Kind); 8] = [
     ("stream", Kind::Stream),
     ("bankq", Kind::Bankq),
@@ -62,7 +63,13 @@ pub const KINDS: [(&str, Kind); 8] = [
     ("cat", Kind::Cat),
 ];
 
-// Whether a word is this text.
+/// The tables are these.
+pub fn tables_are_said()
+    ensures operations { operations ≡ said_operations }
+    ensures kinds { kinds ≡ said_kinds }
+{}
+
+/// Whether a word is this text.
 pub fn is(word: &[u8], text: &str) -> bool
     ensures { result ≡ bytes_eq word.now text.now }
 {
@@ -71,7 +78,7 @@ pub fn is(word: &[u8], text: &str) -> bool
 
 // What a word stands for in a table.
 fn look_up<X: Copy>(word: &[u8], rows: &[(&'static str, X)]) -> Option<X>
-    ensures { result ≡ look word.now (map (λ row. (row.0.now, row.1)) rows.now) }
+    ensures { result ≡ look word.now (map said_row rows.now) }
 {
     for (text, value) in rows {
         if is(word, text) {
@@ -81,99 +88,73 @@ fn look_up<X: Copy>(word: &[u8], rows: &[(&'static str, X)]) -> Option<X>
     None
 }
 
-// The operation of a word, and what follows it.
-pub fn named_form(word: &[u8]) -> Option<Form>
-    ensures { result ≡ form_of word.now }
+/// Whether scripts of a form have labels, `split` and second versions.
+pub fn has_labels(form: Form) -> bool
+    ensures { result ≡ has_labels form }
 {
-    look_up(word, &OPERATIONS)
+    !matches!(form, Form::One)
 }
 
-// The kind of a word.
+/// The operation of a word, and what follows it.
+pub fn named_syntax(form: Form, word: &[u8]) -> Option<Syntax>
+    ensures { result ≡ syntax_of form word.now }
+{
+    if has_labels(form) {
+        look_up(word, &OPERATIONS)
+    } else {
+        let rows: &[(&str, Syntax)] = &OPERATIONS;
+        look_up(word, &rows[..27])
+    }
+}
+
+/// The kind of a word.
 pub fn named_kind(word: &[u8]) -> Option<Kind>
     ensures { result ≡ kind_named word.now }
 {
     look_up(word, &KINDS)
 }
 
-// The number of an operation, from 0.
-fn op_number(op: Op) -> usize
-    ensures { result ≡ op_number op }
+// The row of an operation in the table.
+fn row_of(op: Op) -> usize
+    ensures { result ≡ row_of op }
 {
     match op {
         Op::New(_) => 0,
-        Op::Size => 1,
-        Op::Cons => 2,
-        Op::Snoc => 3,
-        Op::Append => 4,
-        Op::Reverse => 5,
-        Op::Head => 6,
-        Op::Tail => 7,
-        Op::Insert => 8,
-        Op::Min => 9,
-        Op::Delmin => 10,
-        Op::Meld => 11,
-        Op::Max => 12,
-        Op::Delmax => 13,
-        Op::Pushl => 14,
-        Op::Pushr => 15,
-        Op::Popl => 16,
-        Op::Popr => 17,
-        Op::First => 18,
-        Op::Last => 19,
-        Op::Nth => 20,
-        Op::Take => 21,
-        Op::Drop => 22,
-        Op::Concat => 23,
-        Op::Has => 24,
-        Op::Remove => 25,
-        Op::Upto => 26,
+        _ => op.number() as usize,
     }
 }
 
-// The word of an operation, and what follows it.
-pub fn op_row(op: Op) -> (&'static str, Form)
-    ensures word { result.0.now ≡ op_word op }
-    ensures form { result.1 ≡ op_form op }
+// The element at an index, where there is one.
+fn element<X: Copy>(elements: &[X], index: usize) -> Option<X>
+    ensures { result ≡ slice_get elements.now index }
 {
-    OPERATIONS[op_number(op)]
+    elements.get(index).copied()
 }
 
-// The word of a kind.
+// The row of a table at an index, where there is one.
+fn row_at<X: Copy>(rows: &[(&'static str, X)], index: usize) -> Option<(&'static str, X)>
+    ensures { option_map said_row result ≡ slice_get (map said_row rows.now) index }
+{
+    element(rows, index)
+}
+
+/// The word of an operation, and what follows it.
+pub fn op_row(op: Op) -> (&'static str, Syntax)
+    ensures word { result.0.now ≡ op_word op }
+    ensures syntax { result.1 ≡ op_syntax op }
+{
+    match row_at(&OPERATIONS, row_of(op)) {
+        Some(row) => row,
+        None => ("", Syntax::New),
+    }
+}
+
+/// The word of a kind.
 pub fn kind_text(kind: Kind) -> &'static str
     ensures { result.now ≡ kind_word kind }
 {
-    KINDS[kind as usize].0
-}
-
-// Whether a kind has an operation.
-pub fn has(kind: Kind, op: Op) -> bool
-    ensures { result ≡ belongs kind op }
-{
-    match op {
-        Op::New(_) => false,
-        Op::Size => true,
-        Op::Cons => matches!(kind, Kind::Stream | Kind::Cat),
-        Op::Snoc => matches!(kind, Kind::Bankq | Kind::Rtq | Kind::Cat),
-        Op::Append => matches!(kind, Kind::Stream | Kind::Cat),
-        Op::Reverse => matches!(kind, Kind::Stream),
-        Op::Head | Op::Tail => matches!(kind, Kind::Stream | Kind::Bankq | Kind::Rtq | Kind::Cat),
-        Op::Insert => matches!(kind, Kind::Heap | Kind::Prio | Kind::Ord),
-        Op::Min => matches!(kind, Kind::Heap | Kind::Ord),
-        Op::Delmin => matches!(kind, Kind::Heap),
-        Op::Meld => matches!(kind, Kind::Heap | Kind::Prio),
-        Op::Max | Op::Delmax => matches!(kind, Kind::Prio),
-        Op::Pushl | Op::Pushr | Op::Popl | Op::Popr | Op::First | Op::Last => matches!(
-            kind,
-            Kind::Seq
-        ),
-        Op::Nth | Op::Take | Op::Drop | Op::Concat => matches!(kind, Kind::Seq),
-        Op::Has | Op::Remove | Op::Upto => matches!(kind, Kind::Ord),
+    match row_at(&KINDS, kind.number() as usize) {
+        Some((word, _)) => word,
+        None => "",
     }
-}
-
-// Whether two kinds are one.
-pub fn is_same(a: Kind, b: Kind) -> bool
-    ensures { result ≡ same_kind a b }
-{
-    a == b
 }

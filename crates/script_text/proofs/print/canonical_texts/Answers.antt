@@ -12,7 +12,7 @@ pub returns-clause-script : goal.returns-clause-script
 returns-clause-script c = text_writable
 
 pub returns-clause-only : goal.returns-clause-only
-returns-clause-only c bytes es read h is text = one_script bytes read es text (subst (λ b. IsText b es) (sym is) (back es h))
+returns-clause-only c bytes s read h is text = one_script bytes read s text (subst (λ b. IsText b s) (sym is) (back s h))
 
 pub returns-clause-no_fault : goal.returns-clause-no_fault
-returns-clause-no_fault c bytes es line reason h is fault = script_or_fault bytes es line reason (subst (λ b. IsText b es) (sym is) (back es h)) fault
+returns-clause-no_fault c bytes s line reason h is fault = script_or_fault bytes s line reason (subst (λ b. IsText b s) (sym is) (back s h)) fault

@@ -1,5 +1,6 @@
 use Rattle.std.proofs.Common.{◌+◌, ◌≤◌, length}
 use Rattle.script_text.specs.Lines.{lines_of}
+use Rattle.script_text.specs.Labels.{names_in}
 use Rattle.script_text.specs.Text.{body, event_lines}
 use Rattle.script_text.proofs.SoFar.{Reads}
 use Rattle.script_text.proofs.script.read_script.Given as goal
@@ -8,7 +9,7 @@ abbrev pub invariant-loop-line : goal.invariant-loop-line
 invariant-loop-line l =
     record {
       number : l.number + length l.rest ≤ 1 + length l.fn.bytes;
-      reads : Reads (body l.fn.bytes) (event_lines (l.number + 1) (lines_of l.rest)) l.script;
+      reads : Reads l.initial.script.form (body l.fn.bytes) (event_lines (l.number + 1) (lines_of l.rest)) l.script (names_in l.labels);
     }
 
 abbrev pub decreases-loop-line : goal.decreases-loop-line
