@@ -1,3 +1,4 @@
-pub mod GivenUp
-pub mod Queues
+pub mod BuiltLaws
 pub mod Readings
+pub mod Replies
+pub mod Completeness

@@ -1,4 +1,6 @@
-pub mod Words
-pub mod QueueText
+pub mod Headline
+pub mod Commands
+pub mod Scripts
 pub mod Outcome
+pub mod Faults
 pub mod Ran

@@ -1,40 +1,31 @@
 //! What runs on one thread.
-ghost use Rattle.std.specs.Prelude.{◌≡◌, ◌≢◌, ◌↔◌, ◌<◌, ◌≤◌, ℕ, List, map, string_bytes, true, false, None, Some, IfOk, IfErr, length};
+ghost use Rattle.std.specs.Prelude.{◌≡◌, ◌≢◌, ◌↔◌, ◌≤◌, ℕ, List, Option, map, string_bytes, false, None, Some, IfOk, IfSome, OnOk, IfErr, length};
 ghost use Rattle.lazy_rec.specs.declared.events.Event.{Event};
-ghost use Rattle.heap_store.specs.Rows.{row_at, is_given_up};
-ghost use Rattle.lazy_tool.specs.Words.{are_plain, text_of_fault};
-ghost use Rattle.lazy_tool.specs.QueueText.{are_queue_events, IsQueueText};
+ghost use Rattle.lazy_rec.specs.History.{IsScript};
+ghost use Rattle.dues.specs.Rooms.{room};
+ghost use Rattle.heap_store.specs.World.{World};
+ghost use Rattle.script_text.specs.Generator.{generated};
+ghost use Rattle.script_text.specs.Text.{canonical_text};
+ghost use Rattle.lazy_tool.specs.declared.faults.Why.{Why};
+ghost use Rattle.lazy_tool.specs.declared.words.Command.{Command};
+ghost use Rattle.lazy_tool.specs.declared.words.Command.TheVariants.{Plain, Gen};
+ghost use Rattle.lazy_tool.specs.Commands.{ReadsAs};
+ghost use Rattle.lazy_tool.specs.Scripts.{AreBuilt, Tells};
 ghost use Rattle.lazy_tool.specs.Ran.{IsReported};
-ghost use Rattle.lazy_tool.specs.Outcome.{Answers, IsRead, Stops, ends, some_given_up, status_of};
+ghost use Rattle.lazy_tool.specs.Outcome.{Answers, AnswersGen, AnswersPlain, IsComplete, IsRead, NoFaults, Stops, ends, is_refusal, nodes_for, status_of};
+ghost use Rattle.lazy_tool.specs.Headline.{IsAnswered, KeepsBound};
 
-use crate::queue_text::read_queue_text;
-use crate::words::are_plain;
+use crate::built::first_unbuilt;
+use crate::faults::Why;
+use crate::words::{Command, read_words};
+use dues::room;
 use lazy_outside::{ReadError, Sink, Source, read_whole, write_whole};
-use lazy_rec::NoMemory;
-use report_text::report;
-use script_text::Script;
+use lazy_rec::limits::{MOST_EVENTS, MOST_NODES};
+use lazy_rec::{Event, NoMemory};
+use report_text::{Printed, report};
+use script_text::{Script, ScriptFault, generate, print_script, read_script};
 use std::alloc::Global;
-use version_book::{Closed, Ended, solo_book};
-
-/// How many nodes the store has.
-const NODES: u32 = 4_000_000;
-
-/// Why a call ended as it did.
-#[derive(Clone, Copy, Debug, PartialEq, Eq)]
-pub enum Why {
-    /// The whole report was written.
-    Nothing,
-    /// The words are none that are served.
-    Usage,
-    /// The bytes are no text of a script that is served, or are too many.
-    Unread,
-    /// A take failed.
-    Read,
-    /// A give failed.
-    Write,
-    /// Memory couldn't be had.
-    Memory,
-}
+use version_book::{Closed, solo_book};
 
 /// What a call answers: the exit status, why, and the closed book of the events that were run, where they were.
 #[derive(Drop)]
@@ -44,121 +35,129 @@ pub struct Outcome {
     pub closed: Option<Closed>,
 }
 
-/// What the program says of a fault, without a line's end; nothing where there is none.
-pub fn fault_text(why: &Why) -> &'static str
-    ensures { result.now ≡ text_of_fault why.now }
-{
-    match why {
-        Why::Nothing => "",
-        Why::Usage => "usage: lazy_tool plain",
-        Why::Unread => "script not read",
-        Why::Read => "read fault",
-        Why::Write => "write fault",
-        Why::Memory => "out of memory",
+impl Outcome {
+    /// The outcome with no closed book.
+    pub fn without_book(why: Why) -> Outcome
+        ensures { result ≡ record { status = status_of why None; why = why; closed = None } }
+    {
+        let status = match why {
+            Why::Nothing => 0,
+            Why::Usage => 2,
+            Why::Script { .. } | Why::TooLarge | Why::NotBuilt { .. } => 3,
+            Why::Read => 4,
+            Why::Write => 5,
+            Why::Memory => 6,
+        };
+        Outcome {
+            status,
+            why,
+            closed: None,
+        }
     }
 }
 
-// The script that a source holds.
+// The script that a source holds, where all its events are built.
 fn load<S: Source>(alloc: Global, source: &mut S) -> Result<Script, Why>
-    ensures script { IfOk result (λ s. IsRead (S.left source.old) (S.left source.new) s) }
+    ensures script { IfOk result (λ s. IsRead (S.left source.old) (S.left source.new) s.events) }
+    ensures built { IfOk result (λ s. AreBuilt s.events) }
+    ensures no_fault { OnOk result (S.faults source.new ≡ S.faults source.old) }
     ensures fault { IfErr result (λ why. Stops (S.left source.old) (S.left source.new) (S.faults source.old) (S.faults source.new) why) }
 {
     let bytes = match read_whole(alloc, source) {
         Ok(bytes) => bytes,
-        Err(ReadError::TooLarge) => return Err(Why::Unread),
+        Err(ReadError::TooLarge) => return Err(Why::TooLarge),
         Err(ReadError::Failed) => return Err(Why::Read),
         Err(ReadError::NoMemory) => return Err(Why::Memory),
     };
-    match read_queue_text(alloc, bytes.as_slice()) {
-        Ok(Some(script)) => Ok(script),
-        Ok(None) => Err(Why::Unread),
-        Err(NoMemory) => Err(Why::Memory),
+    let script = match read_script(alloc, bytes.as_slice()) {
+        Ok(script) => script,
+        Err(ScriptFault::Line { line, reason }) => return Err(Why::Script { line, reason }),
+        Err(ScriptFault::NoMemory) => return Err(Why::Memory),
+    };
+    match first_unbuilt(&script) {
+        None => Ok(script),
+        Some(event) => Err(Why::NotBuilt { event }),
     }
 }
 
-// A script that was run: the closed book, its report, and whether some row is given up.
+// A script that was run: the closed book and its report.
 #[derive(Drop)]
 struct Ran {
     closed: Closed,
-    text: Vec<u8>,
-    has_given_up: bool,
+    report: Printed,
 }
 
-// Whether the row of a name is given up: it is full, had no memory or no base.
-fn is_given_up(closed: &Closed, name: u32) -> bool
-    requires low { 1 ≤ name }
-    requires high { name ≤ length closed.now.rows }
-    ensures { result ≡ is_given_up (row_at closed.now) name }
+// How many nodes the store of a script has: so many as are asked for, else those with which no row is full.
+fn nodes_for(alloc: Global, nodes: Option<u32>, events: &[Event]) -> Result<u32, NoMemory>
+    requires script { IsScript events.now }
+    requires small { IfSome nodes (λ n. n ≤ MOST_NODES) }
+    ensures nodes { IfOk result (λ n. n ≡ nodes_for nodes events.now) }
+    ensures small { IfOk result (λ n. n ≤ MOST_NODES) }
 {
-    !matches!(closed.row(name).ended, Ended::Reply { .. })
-}
-
-fn has_given_up(closed: &Closed) -> bool
-    requires { length closed.now.rows < 4294967296 }
-    ensures { result ≡ some_given_up closed.now (length closed.now.rows) }
-{
-    for i in 0..closed.rows() {
-        if is_given_up(closed, i as u32 + 1) {
-            return true;
-        }
+    if let Some(nodes) = nodes {
+        return Ok(nodes);
     }
-    false
+    let room = room(alloc, events)?;
+    Ok(room.min(u64::from(MOST_NODES)) as u32)
 }
 
-fn run_script(alloc: Global, script: &Script) -> Result<Ran, NoMemory>
-    requires { are_queue_events script.now ≡ true }
-    ensures { IfOk result (IsReported script.now) }
+fn run_script(alloc: Global, nodes: Option<u32>, script: &Script) -> Result<Ran, NoMemory>
+    requires built { AreBuilt script.now.events }
+    requires small { IfSome nodes (λ n. n ≤ MOST_NODES) }
+    ensures { IfOk result (IsReported nodes script.now.events) }
 {
-    let closed = solo_book(alloc, NODES, script.events())?;
-    let text = report(alloc, &closed)?;
-    let has_given_up = has_given_up(&closed);
-    Ok(Ran {
-        closed,
-        text,
-        has_given_up,
-    })
+    let events = script.events();
+    let nodes = nodes_for(alloc, nodes, events)?;
+    let closed = solo_book(alloc, nodes, events)?;
+    let report = report(alloc, &closed)?;
+    Ok(Ran { closed, report })
 }
 
-// The outcome where no script was run.
-fn without_book(why: Why) -> Outcome
-    ensures { result ≡ record { status = status_of why None; why = why; closed = None } }
+// The text of the script that a seed makes.
+fn made_text(alloc: Global, seed: u64, events: u32) -> Result<Vec<u8>, NoMemory>
+    requires { events ≤ MOST_EVENTS }
+    ensures { IfOk result (λ v. v.items ≡ canonical_text (generated seed events)) }
 {
-    let status = match why {
-        Why::Nothing => 0,
-        Why::Usage => 2,
-        Why::Unread => 3,
-        Why::Read => 4,
-        Why::Write => 5,
-        Why::Memory => 6,
+    let script = generate(alloc, seed, events)?;
+    print_script(alloc, &script)
+}
+
+// Makes a script and writes its text.
+fn serve_gen<K: Sink>(alloc: Global, seed: u64, events: u32, sink: &mut K) -> Outcome
+    requires { events ≤ MOST_EVENTS }
+    ensures answers { (left : Option (List ℕ)) (faults : ℕ) → AnswersGen seed events (ends left faults (K.holds sink.old) (K.faults sink.old)) (ends left faults (K.holds sink.new) (K.faults sink.new)) result.why result.closed }
+    ensures status { result.status ≡ status_of result.why result.closed }
+{
+    let Ok(text) = made_text(alloc, seed, events) else {
+        return Outcome::without_book(Why::Memory);
     };
-    Outcome {
-        status,
-        why,
-        closed: None,
+    match write_whole(sink, text.as_slice()) {
+        Ok(()) => Outcome::without_book(Why::Nothing),
+        Err(_) => Outcome::without_book(Why::Write),
     }
 }
 
 // Reads a script, runs it and writes the report.
-fn serve<S: Source, K: Sink>(alloc: Global, source: &mut S, sink: &mut K) -> Outcome
-    ensures answers { Answers (ends (S.left source.old) (S.faults source.old) (K.holds sink.old) (K.faults sink.old)) (ends (S.left source.new) (S.faults source.new) (K.holds sink.new) (K.faults sink.new)) result.why result.closed }
+fn serve<S: Source, K: Sink>(
+    alloc: Global,
+    nodes: Option<u32>,
+    source: &mut S,
+    sink: &mut K,
+) -> Outcome
+    requires { IfSome nodes (λ n. n ≤ MOST_NODES) }
+    ensures answers { AnswersPlain nodes (ends (S.left source.old) (S.faults source.old) (K.holds sink.old) (K.faults sink.old)) (ends (S.left source.new) (S.faults source.new) (K.holds sink.new) (K.faults sink.new)) result.why result.closed }
     ensures status { result.status ≡ status_of result.why result.closed }
-    ensures no_usage { result.why ≢ Why.Usage }
 {
     let script = match load(alloc, source) {
         Ok(script) => script,
-        Err(why) => return without_book(why),
+        Err(why) => return Outcome::without_book(why),
     };
-    let Ok(ran) = run_script(alloc, &script) else {
-        return without_book(Why::Memory);
+    let Ok(Ran { closed, report }) = run_script(alloc, nodes, &script) else {
+        return Outcome::without_book(Why::Memory);
     };
-    let Ran {
-        closed,
-        text,
-        has_given_up,
-    } = ran;
-    match write_whole(sink, text.as_slice()) {
+    match write_whole(sink, report.text.as_slice()) {
         Ok(()) => Outcome {
-            status: u8::from(has_given_up),
+            status: u8::from(report.has_given_up),
             why: Why::Nothing,
             closed: Some(closed),
         },
@@ -170,27 +169,42 @@ fn serve<S: Source, K: Sink>(alloc: Global, source: &mut S, sink: &mut K) -> Out
     }
 }
 
-/// Serves the one word `plain`: takes the source to its end, reads the script, runs it in a store of 4,000,000 nodes, and
-/// gives the report to the sink. It always returns.
+/// Serves `plain`: takes the source to its end, reads the script, runs it in a store of so many nodes as the words say, else
+/// with the script's room and at most 4,000,000 nodes, and gives the report to the sink. Serves `gen`: gives the sink the
+/// text of the script that the seed makes. It always returns.
 pub fn run_solo<S: Source, K: Sink>(
     alloc: Global,
     words: &[String],
     source: &mut S,
     sink: &mut K,
 ) -> Outcome
-    ensures usage { result.why ≡ Why.Usage ↔ are_plain (map string_bytes words.now) ≡ false }
-    ensures untouched { result.why ≡ Why.Usage → (source.new ≡ source.old) × (sink.new ≡ sink.old) }
-    ensures answers { Answers (ends (S.left source.old) (S.faults source.old) (K.holds sink.old) (K.faults sink.old)) (ends (S.left source.new) (S.faults source.new) (K.holds sink.new) (K.faults sink.new)) result.why result.closed }
-    ensures status { result.status ≡ status_of result.why result.closed }
+    // Other words are refused, and nothing is taken or given.
+    ensures usage { result.why ≡ Why.Usage ↔ ((command : Command) → ReadsAs (map string_bytes words.now) command → ⊥) }
+    ensures untouched { result.why ≡ Why.Usage → (source.new ≡ source.old) × (sink.new ≡ sink.old) × (result.closed ≡ None) }
 
-    // A text that the source holds is read, unless it is too long.
-    ensures reads { (bytes : List ℕ) (events : List Event) → S.left source.old ≡ Some bytes → IsQueueText bytes events
-        → length bytes ≤ 16777216 → result.why ≢ Why.Unread }
+    // Every answer has its cause.
+    ensures answers { (command : Command) → ReadsAs (map string_bytes words.now) command → Answers command (ends (S.left source.old) (S.faults source.old) (K.holds sink.old) (K.faults sink.old)) (ends (S.left source.new) (S.faults source.new) (K.holds sink.new) (K.faults sink.new)) result.why result.closed }
+    ensures status { result.status ≡ status_of result.why result.closed }
+    ensures unread { (seed events : ℕ) → ReadsAs (map string_bytes words.now) (Gen seed events) → source.new ≡ source.old }
+
+    // Where the status of `plain` is 0, the plain report was written, and each book that there is keeps the bound.
+    ensures headline { (nodes : Option ℕ) → ReadsAs (map string_bytes words.now) (Plain nodes) → result.status ≡ 0 → IsAnswered (ends (S.left source.old) (S.faults source.old) (K.holds sink.old) (K.faults sink.old)) (ends (S.left source.new) (S.faults source.new) (K.holds sink.new) (K.faults sink.new)) }
+    ensures bounded { (nodes : Option ℕ) (book : World) → ReadsAs (map string_bytes words.now) (Plain nodes) → result.closed ≡ Some book
+        → KeepsBound nodes (ends (S.left source.old) (S.faults source.old) (K.holds sink.old) (K.faults sink.old)) (ends (S.left source.new) (S.faults source.new) (K.holds sink.new) (K.faults sink.new)) book }
+
+    // A text that the source tells isn't refused, and in a store with its room each event is answered, as far as memory goes.
+    ensures reads { (events : List Event) → Tells (S.left source.old) events → is_refusal result.why ≡ false }
+    ensures complete { (nodes : Option ℕ) (events : List Event) → ReadsAs (map string_bytes words.now) (Plain nodes) → Tells (S.left source.old) events
+        → room events ≤ nodes_for nodes events
+        → NoFaults (ends (S.left source.old) (S.faults source.old) (K.holds sink.old) (K.faults sink.old)) (ends (S.left source.new) (S.faults source.new) (K.holds sink.new) (K.faults sink.new))
+        → IsComplete result.status result.closed }
 {
-    if are_plain(words) {
-        serve(alloc, source, sink)
-    } else {
-        without_book(Why::Usage)
+    crate::words::one_reading();
+    script_text::one_reading();
+    match read_words(words) {
+        Some(Command::Plain { nodes }) => serve(alloc, nodes, source, sink),
+        Some(Command::Gen { seed, events }) => serve_gen(alloc, seed, events, sink),
+        None => Outcome::without_book(Why::Usage),
     }
 }
 

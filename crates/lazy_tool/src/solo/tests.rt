@@ -1,48 +1,109 @@
-use super::run_solo;
+use super::{Outcome, run_solo};
+use crate::faults::fault_text;
 use lazy_outside::{MemSink, MemSource, Source, SureSource, Taken};
+use lazy_rec::{Ref, SuspState};
 use std::alloc::{AllocError, Global};
 use std::test::Fail;
 
+// The smallest rotation, and its report.
+const ROTATION: &str = "lazy 1\nnew bankq\nsnoc 1 5\nhead 2\ntail 2\nhead 4\n";
+
+const ROTATION_REPORT: &str =
+    "1 ok\n2 ok\n3 5\n4 ok\n5 empty\ntotals forced 1 steps 1 givenup 0 dues 3\n";
+
+const NO_TOTALS: &str = "totals forced 0 steps 0 givenup 0 dues 0\n";
+
 // A script, and its report.
-const REPORTS: [(&str, &str); 3] = [
-    ("lazy 1\n", ""),
+const REPORTS: [(&str, &str); 5] = [
+    ("lazy 1\n", NO_TOTALS),
+    ("lazy 1", NO_TOTALS),
+    (ROTATION, ROTATION_REPORT),
     (
-        "lazy 1\nnew bankq\nsnoc 1 5\nhead 2\ntail 2\nhead 4\n",
-        "1 ok\n2 ok\n3 5\n4 ok\n5 empty\n",
+        "  lazy   1\n# the smallest rotation\n\n   \nnew  bankq \nsnoc 01 0000000005\n  # reads\nhead 2\ntail  002\nhead 4",
+        ROTATION_REPORT,
     ),
     (
         "lazy 1\nnew bankq\nsnoc 1 10\nsnoc 2 20\nsnoc 3 30\ntail 4\ntail 4\nhead 5\nhead 6\n",
-        "1 ok\n2 ok\n3 ok\n4 ok\n5 ok\n6 ok\n7 20\n8 20\n",
+        "1 ok\n2 ok\n3 ok\n4 ok\n5 ok\n6 ok\n7 20\n8 20\ntotals forced 3 steps 4 givenup 0 dues 7\n",
     ),
 ];
 
-const SCRIPT: &str = "lazy 1\nnew bankq\nsnoc 1 5\nhead 2\n";
-
-const UNREAD: [&str; 14] = [
-    "",
-    "\n",
-    "lazy 1",
-    "lazy 1\n\n",
-    "lazy 1\nnew bankq",
-    "lazy 1\nnew bankq\nsnoc  1 5\n",
-    "lazy 1\nnew bankq\nsnoc 01 5\n",
-    "lazy 1\nnew bankq\nsnoc 1 4294967296\n",
-    "lazy 1\nqueue\n",
-    "lazy 1\nnew rtq\n",
-    "lazy 1\nnew bankq\nsize 1\n",
-    "lazy 1\nnew bankq\nsnoc 2 5\n",
-    "lazy 1\n# remark\n",
-    " lazy 1\n",
+// The smallest rotation in stores of at least and at most so many nodes: the status and the report.
+const SMALL_STORES: [(u32, u32, u8, &str); 5] = [
+    (
+        0,
+        0,
+        1,
+        "1 full 0 1\n2 nobase\n3 nobase\n4 nobase\n5 nobase\ntotals forced 0 steps 0 givenup 0 dues 0\n",
+    ),
+    (
+        1,
+        3,
+        1,
+        "1 ok\n2 full 1 3\n3 nobase\n4 nobase\n5 nobase\ntotals forced 0 steps 0 givenup 0 dues 1\n",
+    ),
+    (
+        4,
+        4,
+        1,
+        "1 ok\n2 ok\n3 full 4 1\n4 full 4 1\n5 nobase\ntotals forced 0 steps 0 givenup 2 dues 3\n",
+    ),
+    (
+        5,
+        5,
+        1,
+        "1 ok\n2 ok\n3 5\n4 full 5 1\n5 nobase\ntotals forced 1 steps 1 givenup 0 dues 3\n",
+    ),
+    (6, 30, 0, ROTATION_REPORT),
 ];
 
-const OTHER_WORDS: [&[&str]; 6] = [
+// A text, and what is said of it.
+const REFUSED: [(&str, &str); 13] = [
+    ("", "line 1: no header"),
+    ("\n", "line 1: no header"),
+    ("lazy 1\nqueue\n", "line 2: unknown word"),
+    (
+        "lazy 1\nnew bankq\nsnoc 1\n",
+        "line 3: wrong count of words",
+    ),
+    (
+        "lazy 1\nnew bankq\nsnoc 1 4294967296\n",
+        "line 3: bad number",
+    ),
+    ("lazy 1\nnew bankq\nsnoc 2 5\n", "line 3: base not earlier"),
+    (
+        "lazy 1\nnew bankq\ncons 1 5\n",
+        "line 3: operation not of this kind",
+    ),
+    (
+        "lazy 1\nnew stream\nnew cat\nappend 1 2\n",
+        "line 4: bases of two kinds",
+    ),
+    ("lazy 1\nnew rtq\nsnoc 2 5\n", "line 3: base not earlier"),
+    ("lazy 1\nnew rtq\n", "event 1: not built"),
+    ("lazy 1\nnew bankq\nsize 1\n", "event 2: not built"),
+    (
+        "lazy 1\nnew bankq\n\nsnoc 1 5\nnew heap\nhead 2\nsize 3\n",
+        "event 3: not built",
+    ),
+    ("lazy 1\nnew seq", "event 1: not built"),
+];
+
+const OTHER_WORDS: [&[&str]; 9] = [
     &[],
     &["Plain"],
     &["plain "],
     &["plain", "plain"],
-    &["plain", "--nodes=30"],
-    &["run"],
+    &["plain", "--nodes", "4000001"],
+    &["plain", "--nodes", "30", "--nodes=30"],
+    &["run", "--workers", "0"],
+    &["gen", "000000000000000000001", "0"],
+    &["gen", "1", "200001"],
 ];
+
+// The eight structures that begin every made script.
+const EIGHT_KINDS: &str =
+    "lazy 1\nnew stream\nnew bankq\nnew rtq\nnew heap\nnew seq\nnew prio\nnew ord\nnew cat\n";
 
 fn words_of(alloc: Global, texts: &[&str]) -> Result<Vec<String>, AllocError> {
     let mut words = Vec::new(alloc);
@@ -57,7 +118,7 @@ fn source(alloc: Global, text: &str, failing: &[u32]) -> Result<MemSource, Alloc
 }
 
 fn sink(alloc: Global, failing: &[u32]) -> Result<MemSink, AllocError> {
-    Ok(MemSink::new(vec![in alloc; 0; 64]?, 4, failing.to_vec(alloc)?))
+    Ok(MemSink::new(vec![in alloc; 0; 128]?, 4, failing.to_vec(alloc)?))
 }
 
 #[test]
@@ -74,25 +135,31 @@ fn reports(rt: HostRuntime) -> Result<(), Fail> {
 }
 
 #[test]
-fn second_take_fails(rt: HostRuntime) -> Result<(), Fail> {
-    let words = words_of(rt.alloc(), &["plain"])?;
-    let mut source = source(rt.alloc(), SCRIPT, &[2])?;
-    let mut sink = sink(rt.alloc(), &[])?;
-    let outcome = run_solo(rt.alloc(), words.as_slice(), &mut source, &mut sink);
-    assert_eq!(rt; outcome.status, 4);
-    assert_eq!(rt; sink.held().len(), 0);
+fn small_stores(rt: HostRuntime) -> Result<(), Fail> {
+    for (from, to, status, report) in &SMALL_STORES {
+        for nodes in *from..*to + 1 {
+            let number = format!(in rt.alloc(); "{nodes}")?;
+            let words = words_of(rt.alloc(), &["plain", "--nodes", number.as_str()])?;
+            let mut source = source(rt.alloc(), ROTATION, &[])?;
+            let mut sink = sink(rt.alloc(), &[])?;
+            let outcome = run_solo(rt.alloc(), words.as_slice(), &mut source, &mut sink);
+            assert_eq!(rt; outcome.status, *status, "{nodes}");
+            assert_eq!(rt; sink.held(), report.as_bytes(), "{nodes}");
+        }
+    }
     Ok(())
 }
 
 #[test]
-fn third_give_fails(rt: HostRuntime) -> Result<(), Fail> {
-    let words = words_of(rt.alloc(), &["plain"])?;
-    let mut source = source(rt.alloc(), SCRIPT, &[])?;
-    let mut sink = sink(rt.alloc(), &[3])?;
+fn four_nodes(rt: HostRuntime) -> Result<(), Fail> {
+    let words = words_of(rt.alloc(), &["plain", "--nodes=4"])?;
+    let mut source = source(rt.alloc(), ROTATION, &[])?;
+    let mut sink = sink(rt.alloc(), &[])?;
     let outcome = run_solo(rt.alloc(), words.as_slice(), &mut source, &mut sink);
-    assert_eq!(rt; outcome.status, 5);
-    assert_eq!(rt; sink.held(), b"1 ok\n2 o".as_slice());
-    assert!(rt; outcome.closed.is_some());
+    let closed = outcome.closed.ok_or("no book")?;
+    assert_eq!(rt; closed.totals().nodes, 4);
+    let (_, state) = closed.node(Ref(7)).ok_or("no node")?;
+    assert_eq!(rt; state, SuspState::Unforced { given_up: 2 });
     Ok(())
 }
 
@@ -100,10 +167,14 @@ fn third_give_fails(rt: HostRuntime) -> Result<(), Fail> {
 fn other_words_read_nothing(rt: HostRuntime) -> Result<(), Fail> {
     for texts in &OTHER_WORDS {
         let words = words_of(rt.alloc(), texts)?;
-        let mut source = source(rt.alloc(), SCRIPT, &[])?;
+        let mut source = source(rt.alloc(), ROTATION, &[])?;
         let mut sink = sink(rt.alloc(), &[])?;
         let outcome = run_solo(rt.alloc(), words.as_slice(), &mut source, &mut sink);
         assert_eq!(rt; outcome.status, 2);
+        assert_eq!(rt;
+            fault_text(&outcome.why).as_str(),
+            "usage: lazy_tool plain [--nodes N] | gen SEED EVENTS"
+        );
         let mut front = [0; 4];
         assert_eq!(rt; source.take(&mut front), Taken::Bytes(4));
         assert_eq!(rt; front, *b"lazy");
@@ -113,26 +184,129 @@ fn other_words_read_nothing(rt: HostRuntime) -> Result<(), Fail> {
 }
 
 #[test]
-fn other_texts_are_unread(rt: HostRuntime) -> Result<(), Fail> {
+fn refused_texts(rt: HostRuntime) -> Result<(), Fail> {
     let words = words_of(rt.alloc(), &["plain"])?;
-    for text in &UNREAD {
+    for (text, fault) in &REFUSED {
         let mut source = source(rt.alloc(), text, &[])?;
         let mut sink = sink(rt.alloc(), &[])?;
         let outcome = run_solo(rt.alloc(), words.as_slice(), &mut source, &mut sink);
         assert_eq!(rt; outcome.status, 3, "{text}");
+        assert_eq!(rt; fault_text(&outcome.why).as_str(), *fault, "{text}");
         assert_eq!(rt; sink.held().len(), 0, "{text}");
     }
-    let mut large = SureSource::new(vec![in rt.alloc(); 10; 16_777_217]?);
-    let mut sink = sink(rt.alloc(), &[])?;
-    let outcome = run_solo(rt.alloc(), words.as_slice(), &mut large, &mut sink);
-    assert_eq!(rt; outcome.status, 3);
     Ok(())
 }
 
-// A queue that is filled event by event, and emptied again until nothing is left for the last one.
+// The outcome for a text of so many line ends.
+fn run_line_ends(alloc: Global, count: usize) -> Result<Outcome, AllocError> {
+    let words = words_of(alloc, &["plain"])?;
+    let mut source = SureSource::new(vec![in alloc; 10; count]?);
+    let mut sink = sink(alloc, &[])?;
+    Ok(run_solo(alloc, words.as_slice(), &mut source, &mut sink))
+}
+
+#[test]
+fn large_texts(rt: HostRuntime) -> Result<(), Fail> {
+    let outcome = run_line_ends(rt.alloc(), 16_777_216)?;
+    assert_eq!(rt; fault_text(&outcome.why).as_str(), "line 1: no header");
+    let outcome = run_line_ends(rt.alloc(), 16_777_217)?;
+    assert_eq!(rt; outcome.status, 3);
+    assert_eq!(rt;
+        fault_text(&outcome.why).as_str(),
+        "script larger than 16777216 bytes"
+    );
+    Ok(())
+}
+
+#[test]
+fn failing_ends(rt: HostRuntime) -> Result<(), Fail> {
+    let words = words_of(rt.alloc(), &["plain"])?;
+    let mut bad_source = source(rt.alloc(), ROTATION, &[2])?;
+    let mut good_sink = sink(rt.alloc(), &[])?;
+    let outcome = run_solo(
+        rt.alloc(),
+        words.as_slice(),
+        &mut bad_source,
+        &mut good_sink,
+    );
+    assert_eq!(rt; outcome.status, 4);
+    assert_eq!(rt; fault_text(&outcome.why).as_str(), "read fault");
+    assert_eq!(rt; good_sink.held().len(), 0);
+    let mut good_source = source(rt.alloc(), ROTATION, &[])?;
+    let mut bad_sink = sink(rt.alloc(), &[3])?;
+    let outcome = run_solo(
+        rt.alloc(),
+        words.as_slice(),
+        &mut good_source,
+        &mut bad_sink,
+    );
+    assert_eq!(rt; outcome.status, 5);
+    assert_eq!(rt; fault_text(&outcome.why).as_str(), "write fault");
+    assert_eq!(rt; bad_sink.held(), b"1 ok\n2 o".as_slice());
+    assert!(rt; outcome.closed.is_some());
+    Ok(())
+}
+
+#[test]
+fn made_scripts(rt: HostRuntime) -> Result<(), Fail> {
+    for (events, text) in [("0", "lazy 1\n"), ("8", EIGHT_KINDS)] {
+        let words = words_of(rt.alloc(), &["gen", "1", events])?;
+        let mut source = source(rt.alloc(), ROTATION, &[])?;
+        let mut good_sink = sink(rt.alloc(), &[])?;
+        let outcome = run_solo(rt.alloc(), words.as_slice(), &mut source, &mut good_sink);
+        assert_eq!(rt; outcome.status, 0, "{events}");
+        assert_eq!(rt; good_sink.held(), text.as_bytes(), "{events}");
+        assert!(rt; outcome.closed.is_none());
+        let mut front = [0; 4];
+        assert_eq!(rt; source.take(&mut front), Taken::Bytes(4));
+        assert_eq!(rt; front, *b"lazy");
+    }
+    let words = words_of(rt.alloc(), &["gen", "1", "8"])?;
+    let mut source = source(rt.alloc(), "", &[])?;
+    let mut bad_sink = sink(rt.alloc(), &[3])?;
+    let outcome = run_solo(rt.alloc(), words.as_slice(), &mut source, &mut bad_sink);
+    assert_eq!(rt; outcome.status, 5);
+    assert_eq!(rt; fault_text(&outcome.why).as_str(), "write fault");
+    assert_eq!(rt; bad_sink.held(), b"lazy 1\nn".as_slice());
+    Ok(())
+}
+
+// The status and the report of a script that may be long.
+fn large_report(alloc: Global, script: &str) -> Result<(u8, Vec<u8>), AllocError> {
+    let words = words_of(alloc, &["plain"])?;
+    let mut source = SureSource::new(script.as_bytes().to_vec(alloc)?);
+    let mut sink = MemSink::new(vec![in alloc; 0; 2_000_000]?, 65_536, Vec::new(alloc));
+    let outcome = run_solo(alloc, words.as_slice(), &mut source, &mut sink);
+    Ok((outcome.status, sink.held().to_vec(alloc)?))
+}
+
+// 1,022 items, a rotation of them made 500 times from one version, and then the head of each. The first 511 items were in
+// front by nine rotations, whose first cells are made once for all; each new rotation makes its own first cell.
+#[test]
+fn rotations_of_one_version(rt: HostRuntime) -> Result<(), Fail> {
+    let mut text = String::from_str(rt.alloc(), "lazy 1\nnew bankq\n")?;
+    for k in 1..1_023 {
+        text.push_str(format!(in rt.alloc(); "snoc {k} 7\n")?.as_str())?;
+    }
+    for _ in 0..500 {
+        text.push_str("snoc 1023 7\n")?;
+    }
+    let (status, report) = large_report(rt.alloc(), text.as_str())?;
+    assert_eq!(rt; status, 0);
+    assert!(rt; report.ends_with(b"\n1523 ok\ntotals forced 0 steps 0 givenup 0 dues 1522\n"));
+    for k in 1_024..1_524 {
+        text.push_str(format!(in rt.alloc(); "head {k}\n")?.as_str())?;
+    }
+    let (status, report) = large_report(rt.alloc(), text.as_str())?;
+    assert_eq!(rt; status, 0);
+    assert!(rt; report.ends_with(b"\n2023 7\ntotals forced 509 steps 509 givenup 0 dues 1522\n"));
+    Ok(())
+}
+
+// A queue that is filled event by event, and emptied again until nothing is left for the last one. A rotation with n items
+// in front has n + 1 suspensions and 2n + 1 steps; they are made at n = 0, 1, 3, .., 32767 and, while it is emptied, 34463.
 #[test]
 fn most_events(rt: HostRuntime) -> Result<(), Fail> {
-    let words = words_of(rt.alloc(), &["plain"])?;
     let mut text = String::from_str(rt.alloc(), "lazy 1\nnew bankq\n")?;
     for k in 1..100_000 {
         text.push_str(format!(in rt.alloc(); "snoc {k} 7\n")?.as_str())?;
@@ -140,15 +314,13 @@ fn most_events(rt: HostRuntime) -> Result<(), Fail> {
     for k in 100_000..200_000 {
         text.push_str(format!(in rt.alloc(); "tail {k}\n")?.as_str())?;
     }
-    let mut source = SureSource::new(text.into_bytes());
-    let mut sink = MemSink::new(
-        vec![in rt.alloc(); 0; 2_000_000]?,
-        65_536,
-        Vec::new(rt.alloc()),
+    let (status, report) = large_report(rt.alloc(), text.as_str())?;
+    assert_eq!(rt; status, 0);
+    assert_eq!(rt; report.len(), 1_888_953);
+    assert!(rt;
+        report.ends_with(
+            b"\n200000 empty\ntotals forced 99999 steps 199981 givenup 0 dues 299999\n"
+        )
     );
-    let outcome = run_solo(rt.alloc(), words.as_slice(), &mut source, &mut sink);
-    assert_eq!(rt; outcome.status, 0);
-    assert_eq!(rt; sink.held().len(), 1_888_898);
-    assert!(rt; sink.held().ends_with(b"199999 ok\n200000 empty\n"));
     Ok(())
 }
