@@ -1,7 +1,7 @@
 //! Kinds of structures, their operations, the events of a script and the replies to them.
 
 ghost use Rattle.std.specs.Prelude.{◌≡◌, ◌<◌, Some, slice_get};
-ghost use Rattle.lazy_rec.specs.Kinds.{kind_number, belongs};
+ghost use Rattle.lazy_rec.specs.Kinds.{kind_number, belongs, uses_base, uses_other, uses_argument};
 ghost use Rattle.lazy_rec.specs.Numbering.{kind_of_number, op_number, op_of_number};
 
 use std::alloc::{AllocError, AllocFailed};
@@ -171,6 +171,7 @@ impl Kind {
     }
 
     /// Whether the kind has the operation.
+    #[inline(always)]
     pub fn has(self, op: Op) -> bool
         ensures { result ≡ belongs self op }
     {
@@ -236,6 +237,7 @@ impl Op {
     }
 
     /// The operation with the number.
+    #[inline(always)]
     pub fn of_number(number: u32) -> Option<Op>
         ensures { result ≡ op_of_number number }
     {
@@ -246,6 +248,44 @@ impl Op {
         } else {
             element(&OPS, number as usize - 1)
         }
+    }
+
+    /// Whether the operation starts from a version: each but `new` does.
+    #[inline]
+    pub fn uses_base(self) -> bool
+        ensures { result ≡ uses_base self }
+    {
+        !matches!(self, Op::New(_))
+    }
+
+    /// Whether the operation starts from a second version too.
+    #[inline]
+    pub fn uses_other(self) -> bool
+        ensures { result ≡ uses_other self }
+    {
+        matches!(self, Op::Append | Op::Meld | Op::Concat)
+    }
+
+    /// Whether the operation has an argument.
+    #[inline]
+    pub fn uses_argument(self) -> bool
+        ensures { result ≡ uses_argument self }
+    {
+        matches!(
+            self,
+            Op::Cons
+                | Op::Snoc
+                | Op::Insert
+                | Op::Pushl
+                | Op::Pushr
+                | Op::Nth
+                | Op::Take
+                | Op::Drop
+                | Op::Has
+                | Op::Remove
+                | Op::Upto
+                | Op::Split
+        )
     }
 }
 
