@@ -21,7 +21,7 @@ filter-fits : (p : ℕ → Bool) (v : List ℕ) → length (filter p v) ≤ leng
 filter-fits p v = omega (arith, length-filter p v, count_by-le-length p v)
 
 -- a version within its bound, which is one that a version may have
-abbrev Fits : ℕ → ℕ → Type 0
+abbrev pub Fits : ℕ → ℕ → Type 0
 Fits size bound = (size ≤ bound) × (bound ≤ most_items)
 
 -- a list that grows stays within a bound that lets it grow
@@ -41,7 +41,7 @@ at_most_as_many : (has : Bool) (v shorter : List ℕ) (n : ℕ) → Fits (length
 at_most_as_many true v shorter n h l = (omega arith, omega arith)
 at_most_as_many false v shorter n h l = (omega arith, omega arith)
 
-effect_fits : (op : Op) (v w : List ℕ) (n m x : ℕ) → Fits (length v) n → Fits (length w) m → Fits (length (effect op v w x).0) (size_bound op n m x)
+pub effect_fits : (op : Op) (v w : List ℕ) (n m x : ℕ) → Fits (length v) n → Fits (length w) m → Fits (length (effect op v w x).0) (size_bound op n m x)
 effect_fits (ops.New _) v w n m x h k = (omega arith, omega arith)
 effect_fits ops.Cons v w n m x h k = grown_fits v (x ∷ v) n (n + 1) h (omega arith) (omega arith)
 effect_fits ops.Snoc v w n m x h k = grown_fits v (v ++ x ∷ []) n (n + 1) h (omega (arith, length-append v (x ∷ []))) (omega arith)

@@ -89,6 +89,7 @@ fn next_places(kept: &[VersionBounds], kind: Kind, event: &Event) -> u64
 
 /// The room of a script: the sum over its events of `direct + 8 * due`, at the size bounds of their bases in place of
 /// sizes. A store with so many free nodes is never full in a run of the script. It is below 2^54.
+#[inline(never)]
 pub fn room(alloc: Global, events: &[Event]) -> Result<u64, NoMemory>
     requires { IsScript events.now }
     ensures { IfOk result (λ places. places ≡ room events.now) }

@@ -9,6 +9,7 @@ use lazy_rec::numbers::bits;
 use lazy_rec::{Kind, Op};
 
 /// The number of binary digits.
+#[inline(always)]
 fn digits(n: u64) -> u64
     ensures value { result ≡ bits n }
     ensures few { result ≤ 64 }
@@ -19,32 +20,32 @@ fn digits(n: u64) -> u64
 
 /// What an event is charged when it begins, in steps of suspended work, whatever it replies. `n1` and `n2` are the sizes of
 /// its base and of its other version, 0 where there is none. An operation that the kind doesn't have is charged nothing.
+#[inline(always)]
 pub fn due(kind: Kind, op: Op, n1: u32, n2: u32) -> u64
     ensures { result ≡ due kind op n1 n2 }
 {
     let n = n1 as u64;
     let m = n2 as u64;
-    let b = digits(n);
     match (kind, op) {
         (Kind::Stream, Op::Append | Op::Reverse) => n,
         (Kind::Bankq, Op::Snoc) => 1,
         (Kind::Bankq, Op::Tail) => 2,
         (Kind::Rtq, Op::Snoc | Op::Tail) => 1,
         (Kind::Heap, Op::Insert) => 2,
-        (Kind::Heap, Op::Min) => b,
-        (Kind::Heap, Op::Delmin) => 2 * b,
-        (Kind::Heap, Op::Meld) => b + digits(m) + 1,
+        (Kind::Heap, Op::Min) => digits(n),
+        (Kind::Heap, Op::Delmin) => 2 * digits(n),
+        (Kind::Heap, Op::Meld) => digits(n) + digits(m) + 1,
         (Kind::Seq, Op::Pushl | Op::Pushr) => digits(n + 1),
-        (Kind::Seq, Op::Popl | Op::Popr) => b,
-        (Kind::Seq, Op::Take | Op::Drop) => b * b,
+        (Kind::Seq, Op::Popl | Op::Popr) => digits(n),
+        (Kind::Seq, Op::Take | Op::Drop) => digits(n) * digits(n),
         (Kind::Seq, Op::Concat) => digits(n + m),
-        (Kind::Seq, Op::Split) => 2 * b * b,
+        (Kind::Seq, Op::Split) => 2 * digits(n) * digits(n),
         (Kind::Prio, Op::Insert) => digits(n + 1),
-        (Kind::Prio, Op::Delmax) => 2 * b * b + b,
+        (Kind::Prio, Op::Delmax) => 2 * digits(n) * digits(n) + digits(n),
         (Kind::Prio, Op::Meld) => digits(n + m),
-        (Kind::Ord, Op::Insert) => 2 * b * b + digits(n + 1),
-        (Kind::Ord, Op::Remove) => 2 * b * b + b,
-        (Kind::Ord, Op::Upto) => b * b,
+        (Kind::Ord, Op::Insert) => 2 * digits(n) * digits(n) + digits(n + 1),
+        (Kind::Ord, Op::Remove) => 2 * digits(n) * digits(n) + digits(n),
+        (Kind::Ord, Op::Upto) => digits(n) * digits(n),
         (Kind::Cat, Op::Cons | Op::Snoc | Op::Append) => 1,
         (Kind::Cat, Op::Tail) => 3 * n + 2,
         _ => 0,
@@ -53,10 +54,11 @@ pub fn due(kind: Kind, op: Op, n1: u32, n2: u32) -> u64
 
 /// The most places that an event's own reserves take, as nodes of the store; those that completions take aren't in it.
 /// `n1` and `n2` are as for `due`. An operation that the kind doesn't have takes none.
+#[inline(always)]
 pub fn direct(kind: Kind, op: Op, n1: u32, n2: u32) -> u64
     ensures { result ≡ direct kind op n1 n2 }
 {
-    let b = digits(n1 as u64);
+    let n = n1 as u64;
     match (kind, op) {
         (_, Op::New(_)) => new_places(kind),
         (Kind::Stream, Op::Cons | Op::Append | Op::Reverse) => 2,
@@ -65,17 +67,17 @@ pub fn direct(kind: Kind, op: Op, n1: u32, n2: u32) -> u64
         (Kind::Bankq | Kind::Rtq, Op::Tail) => 2,
         (Kind::Heap, Op::Insert | Op::Meld) => 2,
         (Kind::Heap, Op::Min) => 1,
-        (Kind::Heap, Op::Delmin) => 2 * b + 3,
+        (Kind::Heap, Op::Delmin) => 2 * digits(n) + 3,
         (Kind::Seq, Op::Pushl | Op::Pushr | Op::Popl | Op::Popr) => 6,
-        (Kind::Seq, Op::Take | Op::Drop) => 4 * b + 4,
+        (Kind::Seq, Op::Take | Op::Drop) => 4 * digits(n) + 4,
         (Kind::Seq, Op::Concat) => 8,
-        (Kind::Seq, Op::Split) => 8 * b + 8,
+        (Kind::Seq, Op::Split) => 8 * digits(n) + 8,
         (Kind::Prio, Op::Insert) => 6,
-        (Kind::Prio, Op::Delmax) => 8 * b + 16,
+        (Kind::Prio, Op::Delmax) => 8 * digits(n) + 16,
         (Kind::Prio, Op::Meld) => 8,
-        (Kind::Ord, Op::Insert) => 8 * b + 20,
-        (Kind::Ord, Op::Remove) => 8 * b + 16,
-        (Kind::Ord, Op::Upto) => 4 * b + 4,
+        (Kind::Ord, Op::Insert) => 8 * digits(n) + 20,
+        (Kind::Ord, Op::Remove) => 8 * digits(n) + 16,
+        (Kind::Ord, Op::Upto) => 4 * digits(n) + 4,
         (Kind::Cat, Op::Cons | Op::Snoc | Op::Append) => 6,
         (Kind::Cat, Op::Tail) => 8,
         _ => 0,
