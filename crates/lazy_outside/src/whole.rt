@@ -8,7 +8,8 @@ use crate::{Given, Sink, Source, Taken};
 use std::alloc::{AllocError, Global};
 use thiserror::Error;
 
-/// The most bytes that are read.
+/// The most bytes that are read: as many as a script's text may have. `lazy_rec` names that limit too; this crate stands on no
+/// other of the workspace.
 pub const MOST_BYTES: usize = 16_777_216;
 
 // How many bytes more there is room for at a time.
