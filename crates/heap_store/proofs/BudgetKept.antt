@@ -1,5 +1,5 @@
 -- Each step on places and claims keeps a world funded and a hand balanced.
-use Rattle.std.proofs.Common.{◌≡◌, ℕ, suc, ◌<◌, ◌≤◌, ◌+◌, refl, sym, ap, ◌∙◌, arith, ⊎_elim, Bool, true, false, Some, None, List, [], ◌∷◌, length}
+use Rattle.std.proofs.Common.{◌≡◌, ℕ, suc, ◌<◌, ◌≤◌, ◌+◌, refl, sym, ap, ◌∙◌, arith, ⊎_elim, true, Some, None, List, [], ◌∷◌, length}
 use Rattle.std.specs.Prelude.{option_map}
 use Rattle.std.specs.Set.{is_member}
 use Rattle.std.proofs.lemmas.List.{length-set}
@@ -9,7 +9,6 @@ use Rattle.lazy_rec.specs.declared.records.Rec.{Rec}
 use Rattle.lazy_rec.specs.declared.records.Rec.TheVariants.{BankRot}
 use Rattle.lazy_rec.specs.declared.states.SuspState.{SuspState}
 use Rattle.lazy_rec.specs.declared.states.SuspState.TheVariants.{Unforced, Claimed}
-use Rattle.lazy_rec.specs.Tests.{implies}
 use Rattle.lazy_rec.specs.Named.{is_pending}
 use Rattle.lazy_rec.specs.Units.{WorkUnit, same_unit, units}
 use Rattle.heap_store.specs.declared.nodes.Node.{Node}
@@ -18,6 +17,7 @@ use Rattle.heap_store.specs.Lawful.{IsLawful}
 use Rattle.heap_store.specs.Hand.{Hand, IsLawfulHand, holds_claim, contains, claim_places, is_unbuilt, places_of_steps, brings, hand_reserved, hand_put, hand_won, hand_completed, hand_given_up}
 use Rattle.heap_store.specs.Budget.{alone_with, all_discharged, discharged, gain, are_discharged, is_funded, is_settled, IsFunded, IsBalanced}
 use Rattle.heap_store.proofs.GrowthLaws.{Up, and_up, same_up}
+use Rattle.lazy_rec.proofs.TestLaws.{implies_from, implies_to}
 use Rattle.heap_store.proofs.ShowLaws.{one_value, show_adds, put_grows, recs-show}
 use Rattle.heap_store.proofs.LawfulLaws.{lawful_names}
 use Rattle.heap_store.proofs.GainLaws.{NamesThere, names_there, discharged_kept}
@@ -40,14 +40,6 @@ discharged_up a b up (u ∷ us) = and_up (up u) (discharged_up a b up us)
 pub settled_up : (a b : World) → Keeps (recs a) (recs b) → ((u : WorkUnit) → Up (is_member same_unit (all_discharged a) u) (is_member same_unit (all_discharged b) u)) → (q : ℕ) (t : Rec) → NamesThere (recs a) t → Up (is_settled a q t) (is_settled b q t)
 settled_up a b keeps up q (BankRot xs _ _ origin _) n h = rw (keeps xs.0 n.0.0 n.0.1) (discharged_up a b up _ (rw n.0.1 at h))
 settled_up a b keeps up q _ n h = refl
-
-implies_from : (x y : Bool) → (x ≡ true → y ≡ true) → implies x y ≡ true
-implies_from true y h = h refl
-implies_from false y h = refl
-
-pub implies_to : (x y : Bool) → implies x y ≡ true → x ≡ true → y ≡ true
-implies_to true y h e = h
-implies_to false y h e = absurd (true≢false (sym e))
 
 module _ (w : World) (p : ℕ) (r : Rec) (inside : p < length w.nodes) (none : node_at w p ≡ None) (law : IsLawful w) where
   put_up : (u : WorkUnit) → Up (is_member same_unit (all_discharged w) u) (is_member same_unit (all_discharged (show w p r (Unforced 0))) u)

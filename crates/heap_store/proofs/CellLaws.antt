@@ -97,7 +97,7 @@ some_list_cell law p (LCons c v rest) e h some n = n c v rest refl
 some_list_cell law p _ e h some n = true≢false (sym h)
 
 -- a stream means its cells
-stream_means : (rs : Records) (f : ℕ → List ℕ) (p : ℕ) (r : Rec) → is_stream_part r ≡ true → means_of rs f p r ≡ flat_map (items_of f) (cells rs p)
+pub stream_means : (rs : Records) (f : ℕ → List ℕ) (p : ℕ) (r : Rec) → is_stream_part r ≡ true → means_of rs f p r ≡ flat_map (items_of f) (cells rs p)
 stream_means rs f p Nil h = refl
 stream_means rs f p (Cons _ _ _) h = refl
 stream_means rs f p (Append _ _ _ _ _) h = refl

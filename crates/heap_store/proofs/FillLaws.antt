@@ -1,6 +1,6 @@
 -- Runs that are filled part by part, and what is seen before a build.
-use Rattle.std.proofs.Common.{◌≡◌, ℕ, ◌+◌, ◌<◌, ◌≤◌, eqb, refl, ap, ◌∙◌, arith, ⊎_elim}
-use Rattle.std.proofs.lemmas.Bool.{eq-eqb, ne_eqb, cond-true, cond-false, cases_eq}
+use Rattle.std.proofs.Common.{◌≡◌, ℕ, ◌+◌, ◌<◌, ◌≤◌, eqb, refl, ap, ◌∙◌, arith}
+use Rattle.std.proofs.lemmas.Bool.{ne_eqb, cond-false}
 use Rattle.lazy_rec.specs.declared.places.Ref.{Ref}
 use Rattle.heap_store.specs.Span.{Span}
 use Rattle.heap_store.specs.World.{recs}
@@ -8,7 +8,7 @@ use Rattle.heap_store.specs.Hand.{Hand, IsInHand, without, brings}
 use Rattle.heap_store.specs.View.{View, Quiet, purse}
 use Rattle.heap_store.specs.Jobs.{Readiness, IsBuildable, IsBuilt, Filled}
 use Rattle.heap_store.proofs.GrowthLaws.{grows_trans}
-use Rattle.heap_store.proofs.Steps.{alone_of, words_trans, SameRows_trans, without-without, quiet_Filled, IsFilling, brought, brings_grow}
+use Rattle.heap_store.proofs.Steps.{alone_of, words_trans, SameRows_trans, without-without, quiet_Filled, IsFilling, brought, filling_purse}
 
 -- ---- one part after another
 
@@ -38,21 +38,8 @@ filling_part {a} {b} {c} {before} {run} {run'} {spent} more f g up same held k =
       same_end = same ∙ f.same_end;
       held = held;
       fresh = λ z. absurd (omega (arith, z, n, up));
-      credits = omega (arith, all, k, ⊎_elim first later (cases_eq before.next run.next));
+      credits = omega (arith, all, k, filling_purse f);
     }
-  where
-    -- the first part brings what the newest claim brings
-    first : before.next ≡ run.next → a.hand.credits + brings (recs a.seen) a.hand.claims ≤ purse b + spent
-    first z =
-        let none : brought a before run ≡ 0 = cond-true (eqb before.next run.next) 0 (brings (recs a.seen) a.hand.claims) (eq-eqb before.next run.next z) in
-        let grown = brings_grow (recs a.seen) (recs b.seen) f.filled.grows.records a.hand.claims in
-        let same : brings (recs b.seen) b.hand.claims ≡ brings (recs b.seen) a.hand.claims = ap (brings (recs b.seen)) (f.fresh z) in
-        omega (arith, none, grown, same, f.credits)
-
-    later : (before.next ≡ run.next → ⊥) → a.hand.credits + brings (recs a.seen) a.hand.claims ≤ purse b + spent
-    later ne =
-        let some : brought a before run ≡ brings (recs a.seen) a.hand.claims = cond-false (eqb before.next run.next) 0 (brings (recs a.seen) a.hand.claims) (ne_eqb before.next run.next ne) in
-        omega (arith, some, f.credits)
 
 -- ---- more of the world may be seen before a build
 

@@ -1,7 +1,7 @@
 -- What a world's growth keeps.
 use Rattle.std.proofs.Common.{◌≡◌, ℕ, refl, sym, ap, ◌∙◌, arith, ltb, Bool, true, false, cond, ◌&&◌, ◌||◌, ⊎_elim, Option, Some, None, List, [], ◌∷◌}
 use Rattle.std.specs.Prelude.{option_and_then, option_map, is_some, slice_index_or}
-use Rattle.std.specs.List.{AllByRecursion, list_all}
+use Rattle.std.specs.List.{AllByRecursion}
 use Rattle.std.proofs.lemmas.Bool.{true≢false, eqb-true, and_parts, and_from, or_left, or_right, or_cases, ltb-true}
 use Rattle.lazy_rec.specs.declared.records.Rec.{Rec}
 use Rattle.lazy_rec.specs.declared.records.Sort.{Sort}

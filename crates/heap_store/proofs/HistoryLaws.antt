@@ -23,11 +23,11 @@ use Rattle.heap_store.proofs.ShowLaws.{one_value}
 
 -- ---- answered rows
 
-list_any_up : {X : Type 0} (f g : X → Bool) (xs : List X) → ((y : X) → Up (f y) (g y)) → Up (list_any f xs) (list_any g xs)
+pub list_any_up : {X : Type 0} (f g : X → Bool) (xs : List X) → ((y : X) → Up (f y) (g y)) → Up (list_any f xs) (list_any g xs)
 list_any_up f g [] up = same_up
 list_any_up f g (x ∷ xs) up = or_up (up x) (list_any_up f g xs up)
 
-list_all_up : {X : Type 0} (f g : X → Bool) (xs : List X) → ((y : X) → Up (f y) (g y)) → Up (list_all f xs) (list_all g xs)
+pub list_all_up : {X : Type 0} (f g : X → Bool) (xs : List X) → ((y : X) → Up (f y) (g y)) → Up (list_all f xs) (list_all g xs)
 list_all_up f g [] up = same_up
 list_all_up f g (x ∷ xs) up = and_up (up x) (list_all_up f g xs up)
 
@@ -72,7 +72,7 @@ answered_row rows n h = go (rows (event_name n)) refl h
     go None e k = absurd (true≢false (sym k))
     go (Some r) e k = ending_answered rows (event_name n) r r.ending e refl (with_version (is_second n) r.ending k)
 
-refused_ended : (e : Ending) → is_refused e ≡ true → is_ended e ≡ true
+pub refused_ended : (e : Ending) → is_refused e ≡ true → is_ended e ≡ true
 refused_ended not_ended h = h
 refused_ended (answered _ _ _) h = refl
 refused_ended (full _ _) h = refl
@@ -112,7 +112,7 @@ module _ (rows rows' : NamedRows) (keeps : (i : ℕ) (r : Row) → rows i ≡ So
   pub version_up : (n : ℕ) (v : Version) → version_at rows n ≡ Some v → version_at rows' n ≡ Some v
   version_up n v e = sym (version_same n (rw e refl)) ∙ e
 
-  given_up_up : (n : ℕ) → Up (is_given_up rows n) (is_given_up rows' n)
+  pub given_up_up : (n : ℕ) → Up (is_given_up rows n) (is_given_up rows' n)
   given_up_up n h = go (rows (event_name n)) refl h
     where
       go : (o : Option Row) → rows (event_name n) ≡ o → is_some_and (λ (r : Row). is_refused r.ending) o ≡ true → is_given_up rows' n ≡ true

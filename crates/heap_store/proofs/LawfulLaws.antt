@@ -1,5 +1,5 @@
 -- A world with one more record, or with another state of a suspension, is lawful.
-use Rattle.std.proofs.Common.{◌≡◌, ℕ, zero, suc, ◌<◌, ◌≤◌, refl, sym, ap, ◌∙◌, arith, eqb, ltb, Bool, true, false, not, ◌||◌, ◌⊎◌, inl, inr, ⊎_elim, Option, Some, None, List, [], ◌∷◌, length}
+use Rattle.std.proofs.Common.{◌≡◌, ℕ, zero, suc, ◌<◌, ◌≤◌, refl, sym, ap, ◌∙◌, arith, eqb, ltb, Bool, true, false, not, ◌||◌, ◌⊎◌, ⊎_elim, Option, Some, None, List, [], ◌∷◌, length}
 use Rattle.std.specs.Prelude.{option_map, option_and_then, slice_index_or}
 use Rattle.std.specs.List.{AllByRecursion, list_all}
 use Rattle.std.proofs.lemmas.Bool.{true≢false, cases_eq, and_parts, and_from, or_cases, or_left, or_right, eqb-true, eq-eqb}
@@ -22,7 +22,7 @@ use Rattle.heap_store.proofs.NameLaws.{NamesWell, IsNamedWell, IsPublished}
 use Rattle.heap_store.proofs.GrowthLaws.{Up, and_up, same_up, at_true, holds_up, names_of}
 use Rattle.heap_store.proofs.RecordLaws.{sizes_up, unmixed_up, banks_up, rts_up, heaps_up, cats_up, fingers_up, low_names_up, done_well_up}
 use Rattle.heap_store.proofs.MadeLaws.{is_next_up}
-use Rattle.heap_store.proofs.ShowLaws.{one_value, node-same, node-other, show_adds, state-same, state-other, done-same, done-other, put_grows, recs-show, state_grows}
+use Rattle.heap_store.proofs.ShowLaws.{one_value, new_or_old, node-same, node-other, show_adds, state-same, state-other, done-same, done-other, put_grows, recs-show, state_grows}
 
 -- ---- searches over the records
 
@@ -201,11 +201,6 @@ module _ (w : World) (p : ℕ) (r : Rec) (inside : p < length w.nodes) (none : n
       (λ eq. absurd (true≢false (sym (sym (ap taken_of (ap (node_at w) eq ∙ none)) ∙ h))))
       (λ ne. ap taken_of (node-other w p r (Unforced 0) inside m ne) ∙ h) (cases_eq m p)
 
-  which : (q : ℕ) (t : Rec) → recs (show w p r (Unforced 0)) q ≡ Some t → ((q ≡ p) × (t ≡ r)) ⊎ (recs w q ≡ Some t)
-  which q t e = let adds = show_adds w p r (Unforced 0) inside none in ⊎_elim
-      (λ eq. inl (eq, one_value t r (sym e ∙ ap (recs (show w p r (Unforced 0))) eq ∙ adds.there)))
-      (λ ne. inr (sym (adds.others q ne) ∙ e)) (cases_eq q p)
-
   -- no suspension of the world has the family and the offset of the new one
   module _ (h : Hand) (hand : IsLawfulHand w h) (origin : has_origin p r ≡ true) (follows : (i : ℕ) → (family_of p r).1 ≡ suc i → newest_makes w h.claims (family_of p r).0 (suc i) r ≡ true) where
     no_twin : (q : ℕ) (t : Rec) → recs w q ≡ Some t → is_pending t ≡ true → family_of q t ≡ family_of p r → ⊥
@@ -242,13 +237,13 @@ module _ (w : World) (p : ℕ) (r : Rec) (inside : p < length w.nodes) (none : n
         let names = lawful_names law in
         record {
           fixed = fixed_up w b x law.fixed;
-          each = λ q t e. ⊎_elim (λ k. rw (k.0, k.1) laws) (λ was. laws_up w b names x q t was (law.each q t was)) (which q t e);
-          origins = λ q t e. ⊎_elim (λ k. rw (k.0, k.1) origin) (λ was. law.origins q t was) (which q t e);
+          each = λ q t e. ⊎_elim (λ k. rw (k.0, k.1) laws) (λ was. laws_up w b names x q t was (law.each q t was)) (new_or_old w p r (Unforced 0) inside none q t e);
+          origins = λ q t e. ⊎_elim (λ k. rw (k.0, k.1) origin) (λ was. law.origins q t was) (new_or_old w p r (Unforced 0) inside none q t e);
           one = λ q t e pend q' t' e' pend' same. ⊎_elim
-              (λ k. ⊎_elim (λ k'. k.0 ∙ sym k'.0) (λ was'. absurd (no_twin q' t' was' pend' (sym same ∙ rw (k.0, k.1) refl))) (which q' t' e'))
-              (λ was. ⊎_elim (λ k'. absurd (no_twin q t was pend (same ∙ rw (k'.0, k'.1) refl))) (λ was'. law.one q t was pend q' t' was' pend' same) (which q' t' e'))
-              (which q t e);
-          makers = λ q t e. ⊎_elim (λ k. rw (k.0, k.1) new_maker) (λ was. maker_up w b names x put_taken t (family_of q t).0 (family_of q t).1 (law.makers q t was)) (which q t e);
+              (λ k. ⊎_elim (λ k'. k.0 ∙ sym k'.0) (λ was'. absurd (no_twin q' t' was' pend' (sym same ∙ rw (k.0, k.1) refl))) (new_or_old w p r (Unforced 0) inside none q' t' e'))
+              (λ was. ⊎_elim (λ k'. absurd (no_twin q t was pend (same ∙ rw (k'.0, k'.1) refl))) (λ was'. law.one q t was pend q' t' was' pend' same) (new_or_old w p r (Unforced 0) inside none q' t' e'))
+              (new_or_old w p r (Unforced 0) inside none q t e);
+          makers = λ q t e. ⊎_elim (λ k. rw (k.0, k.1) new_maker) (λ was. maker_up w b names x put_taken t (family_of q t).0 (family_of q t).1 (law.makers q t was)) (new_or_old w p r (Unforced 0) inside none q t e);
           done = λ q t e d f. ⊎_elim
               (λ eq. (let z : None ≡ Some d = sym (done-same w p r (Unforced 0) inside) ∙ ap (done_at b) (sym eq) ∙ f in cc))
               (λ ne. (let was = sym ((show_adds w p r (Unforced 0) inside none).others q ne) ∙ e in let old = sym (done-other w p r (Unforced 0) inside q ne) ∙ f in done_well_up w b names x (done_there law) q t d was (law.done q t was d old)))

@@ -21,10 +21,16 @@ pub mod CellLaws
 pub mod EntryLaws
 pub mod FixedPlaces
 pub mod PutLaws
+pub mod AnyCells
+pub mod WalkLaws
+pub mod QueueEntries
+pub mod PlainCells
 pub mod FillLaws
+pub mod EventEnds
 pub mod RowLaws
 pub mod HistoryLaws
 pub mod PlainLists
+pub mod SlotLaws
 pub mod PlainWorlds
 pub mod PlainSeen
 pub mod CountLaws

@@ -31,11 +31,11 @@ marked_open [] names h = refl
 marked_open (o ∷ rows) names h = let k = and_parts (contains names o.name) _ h in and_from _ _ k.0 (marked_open rows names k.1)
 
 -- a name is drawn
-contains-more : (xs : List ℕ) (y x : ℕ) → contains xs x ≡ true → contains (xs ++ y ∷ []) x ≡ true
+pub contains-more : (xs : List ℕ) (y x : ℕ) → contains xs x ≡ true → contains (xs ++ y ∷ []) x ≡ true
 contains-more [] y x h = absurd (true≢false (sym h))
 contains-more (z ∷ xs) y x h = ⊎_elim (λ e. or_left (eqb z x) _ e) (λ e. or_right (eqb z x) _ (contains-more xs y x e)) (or_cases (eqb z x) (contains xs x) h)
 
-more_open : (rows : List OpenRow) (xs : List ℕ) (y : ℕ) → AreOpenIn rows xs → AreOpenIn rows (xs ++ y ∷ [])
+pub more_open : (rows : List OpenRow) (xs : List ℕ) (y : ℕ) → AreOpenIn rows xs → AreOpenIn rows (xs ++ y ∷ [])
 more_open [] xs y h = refl
 more_open (o ∷ rows) xs y h = let k = and_parts (contains xs o.name) _ h in and_from _ _ (contains-more xs y o.name k.0) (more_open rows xs y k.1)
 
@@ -61,7 +61,7 @@ begun_open : (rows : List OpenRow) (xs : List ℕ) (name : ℕ) → contains xs 
 begun_open [] xs name own h = and_from _ _ own refl
 begun_open (o ∷ rows) xs name own h = let k = and_parts (contains xs o.name) _ h in and_from _ _ k.0 (begun_open rows xs name own k.1)
 
-hand_open : (b e : Bool) (w : World) (h : Hand) (name : ℕ) → contains h.names name ≡ true → AreOpenIn h.open_rows h.names → AreOpenIn (hand_if b e w h name).open_rows (hand_if b e w h name).names
+pub hand_open : (b e : Bool) (w : World) (h : Hand) (name : ℕ) → contains h.names name ≡ true → AreOpenIn h.open_rows h.names → AreOpenIn (hand_if b e w h name).open_rows (hand_if b e w h name).names
 hand_open true e w h name own k = begun_open h.open_rows h.names name own k
 hand_open false true w h name own k = ended_open h.open_rows h.names name k
 hand_open false false w h name own k = k
@@ -92,7 +92,7 @@ named_crowd rows rows' n e h = rw e (omega (arith, h, count-append (λ ws. not (
 begun_some : (v : ℕ) → is_begun_word v ≡ true → eqb v 0 ≡ false
 begun_some v h = ne_eqb v 0 (λ z. true≢false (sym (subst (λ k. is_begun_word k ≡ true) z h)))
 
-begins_first : (j v : ℕ) → begins_row j v ≡ true → j ≡ 0
+pub begins_first : (j v : ℕ) → begins_row j v ≡ true → j ≡ 0
 begins_first zero v e = refl
 begins_first (suc j) v e = absurd (true≢false (sym e))
 

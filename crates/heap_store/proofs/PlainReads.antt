@@ -1,8 +1,8 @@
 -- What an index of a plain heap's places reads.
 use Rattle.std.proofs.Common.{◌≡◌, ℕ, ◌<◌, true, List, [], ◌∷◌, Option, Some, None, refl, sym, ap, ◌∙◌, length, Bool, not, ◌&&◌, eqb, ⊎_elim}
 use Rattle.std.specs.List.{list_any}
-use Rattle.std.proofs.lemmas.Bool.{true≢false, and_parts, or_cases, or_left, or_right}
-use Rattle.std.specs.Prelude.{slice_index_or, option_map}
+use Rattle.std.proofs.lemmas.Bool.{cases_lt, true≢false, and_parts, or_cases, or_left, or_right}
+use Rattle.std.specs.Prelude.{slice_set, slice_index_or, option_map, is_some}
 use Rattle.lazy_rec.specs.declared.records.Rec.{Rec}
 use Rattle.lazy_rec.specs.declared.states.SuspState.{SuspState}
 use Rattle.heap_store.specs.declared.nodes.Node.{Node}
@@ -13,17 +13,27 @@ use Rattle.heap_store.specs.declared.claims.HeldClaim.{HeldClaim}
 use Rattle.heap_store.specs.Hand.{contains, claim_places}
 use Rattle.std.proofs.Common.{◌≤◌, ◌-◌, arith, get_or, zero, suc}
 use Rattle.std.proofs.lemmas.Option.{slice_get-get_or}
+use Rattle.std.proofs.lemmas.List.{get_or_past}
 use Rattle.heap_store.specs.Rows.{words_at}
 use Rattle.heap_store.specs.Plain.{IsPlain, plain_world, is_claimed_node, filled_up, no_words}
 use Rattle.heap_store.proofs.ShowLaws.{one_value}
 use Rattle.heap_store.proofs.PlainLists.{filled-within}
-use Rattle.heap_store.proofs.PlainWorlds.{node_read, drawn_there, rec_node, published_rec}
+use Rattle.heap_store.specs.Slots.{PlacesView, at_place}
+use Rattle.heap_store.proofs.PlainWorlds.{node-drawn, node-undrawn, drawn_there, rec_node, published_rec}
 
 claimed_there : (o : Option Node) → is_claimed_node o ≡ true → (n : Node) × (o ≡ Some n) × (is_claimed n.state ≡ true)
 claimed_there None e = absurd (true≢false (sym e))
 claimed_there (Some n) e = (n, refl, e)
 
+-- places with another state of one
+abbrev pub with_state : PlacesView → ℕ → Rec → SuspState → PlacesView
+with_state v p r s = record v { shown = slice_set v.shown p (Some (record { rec = r; state = s })) }
+
 module _ (capacity row_capacity : ℕ) (nodes : List (Option Node)) (rows : List (List ℕ)) where
+  -- what a place shows, drawn or not
+  pub node_shown : (p : ℕ) → node_at (plain_world capacity row_capacity nodes rows) p ≡ at_place nodes p
+  node_shown p = ⊎_elim (λ l. node-drawn capacity row_capacity nodes rows p l) (λ l. node-undrawn capacity row_capacity nodes rows p l ∙ sym (get_or_past nodes p None l)) (cases_lt p (length nodes))
+
   -- a published place is drawn
   pub within_read : (p : ℕ) (test : Rec → Bool) → holds (recs (plain_world capacity row_capacity nodes rows)) p test ≡ true → p < length nodes
   within_read p test h =
@@ -32,32 +42,34 @@ module _ (capacity row_capacity : ℕ) (nodes : List (Option Node)) (rows : List
       let n = rec_node w p t.0 t.1 in
       drawn_there capacity row_capacity nodes rows p n.0 n.1
 
-  module _ (p : ℕ) (test : Rec → Bool) (h : holds (recs (plain_world capacity row_capacity nodes rows)) p test ≡ true) (o : Option Node) (read : o ≡ slice_index_or nodes p o) where
-    here : node_at (plain_world capacity row_capacity nodes rows) p ≡ o
-    here = node_read capacity row_capacity nodes rows p o read (within_read p test h)
+  -- what a read of a published place shows
+  pub there : (p : ℕ) (test : Rec → Bool) → holds (recs (plain_world capacity row_capacity nodes rows)) p test ≡ true → node_at (plain_world capacity row_capacity nodes rows) p ≡ at_place nodes p
+  there p test h = node_shown p
 
-    pub none_read : o ≡ None → ⊥
-    none_read e =
-        let t = published_rec (recs (plain_world capacity row_capacity nodes rows)) p test h in
-        let z : None ≡ Some t.0 = sym (ap (option_map (λ (n : Node). n.rec)) (here ∙ e)) ∙ t.1 in
-        cc
+  pub shown_read : (p : ℕ) (test : Rec → Bool) → holds (recs (plain_world capacity row_capacity nodes rows)) p test ≡ true → is_some (at_place nodes p) ≡ true
+  shown_read p test h =
+      let t = published_rec (recs (plain_world capacity row_capacity nodes rows)) p test h in
+      let n = rec_node (plain_world capacity row_capacity nodes rows) p t.0 t.1 in
+      ap {B = Bool} is_some (sym (there p test h) ∙ n.1)
 
-    pub rec_read : (n : Node) → o ≡ Some n → recs (plain_world capacity row_capacity nodes rows) p ≡ Some n.rec
-    rec_read n e = ap (option_map (λ (m : Node). m.rec)) (here ∙ e)
+  pub rec_read : (p : ℕ) (test : Rec → Bool) (r : Rec) → holds (recs (plain_world capacity row_capacity nodes rows)) p test ≡ true → option_map (λ (n : Node). n.rec) (at_place nodes p) ≡ Some r → recs (plain_world capacity row_capacity nodes rows) p ≡ Some r
+  rec_read p test r h e = ap (option_map (λ (n : Node). n.rec)) (there p test h) ∙ e
 
-    pub state_read : (n : Node) → o ≡ Some n → state_at (plain_world capacity row_capacity nodes rows) p ≡ Some n.state
-    state_read n e = ap (option_map (λ (m : Node). m.state)) (here ∙ e)
+  pub state_read : (p : ℕ) (test : Rec → Bool) (s : SuspState) → holds (recs (plain_world capacity row_capacity nodes rows)) p test ≡ true → option_map (λ (n : Node). n.state) (at_place nodes p) ≡ Some s → state_at (plain_world capacity row_capacity nodes rows) p ≡ Some s
+  state_read p test s h e = ap (option_map (λ (n : Node). n.state)) (there p test h) ∙ e
 
-    pub node_is : (n : Node) (s : SuspState) → o ≡ Some n → n.state ≡ s → node_at (plain_world capacity row_capacity nodes rows) p ≡ Some (record { rec = n.rec; state = s })
-    node_is n s e f = here ∙ (e ∙ ap {B = Option Node} (λ t. Some (record { rec = n.rec; state = t })) f)
+-- the node of this state
+pub state_node : (o : Option Node) (s : SuspState) → option_map (λ (n : Node). n.state) o ≡ Some s → (r : Rec) × (o ≡ Some (record { rec = r; state = s }))
+state_node None s e = cc
+state_node (Some n) s e = let same : n.state ≡ s = cc in (n.rec, ap {B = Option Node} (λ t. Some (record n { state = t })) same)
 
-    -- the record passes the test
-    pub passed_read : (n : Node) → o ≡ Some n → test n.rec ≡ true
-    passed_read n e =
-        let t = published_rec (recs (plain_world capacity row_capacity nodes rows)) p test h in
-        let z : Some t.0 ≡ Some n.rec = sym t.1 ∙ rec_read n e in
-        let same : t.0 ≡ n.rec = cc in
-        ap test (sym same) ∙ t.2
+-- the record of a node passes the test
+pub passed_at : (w : World) (p : ℕ) (test : Rec → Bool) (n : Node) → node_at w p ≡ Some n → holds (recs w) p test ≡ true → test n.rec ≡ true
+passed_at w p test n is h =
+    let t = published_rec (recs w) p test h in
+    let z : Some t.0 ≡ Some n.rec = sym t.1 ∙ ap (option_map (λ (m : Node). m.rec)) is in
+    let same : t.0 ≡ n.rec = cc in
+    ap test (sym same) ∙ t.2
 
 -- a claimed place
 module _ (capacity row_capacity : ℕ) (nodes : List (Option Node)) (claims : List HeldClaim) (rows : List (List ℕ)) (h : IsPlain capacity row_capacity nodes claims rows) (s : ℕ) (held : contains (claim_places claims) s ≡ true) where
@@ -67,18 +79,20 @@ module _ (capacity row_capacity : ℕ) (nodes : List (Option Node)) (claims : Li
   pub within_held : s < length nodes
   within_held = drawn_there capacity row_capacity nodes rows s claimed_node.0 claimed_node.1
 
-  module _ (o : Option Node) (read : o ≡ slice_index_or nodes s o) where
-    held_here : o ≡ Some claimed_node.0
-    held_here = sym (node_read capacity row_capacity nodes rows s o read within_held) ∙ claimed_node.1
+  held_there : node_at (plain_world capacity row_capacity nodes rows) s ≡ at_place nodes s
+  held_there = node-drawn capacity row_capacity nodes rows s within_held
 
-    pub held_none : o ≡ None → ⊥
-    held_none e = let z : None ≡ Some claimed_node.0 = sym e ∙ held_here in cc
+  pub held_shown : is_some (at_place nodes s) ≡ true
+  held_shown = ap {B = Bool} is_some (sym held_there ∙ claimed_node.1)
 
-    pub held_claimed : (n : Node) → o ≡ Some n → is_claimed n.state ≡ true
-    held_claimed n e = let z : Some claimed_node.0 ≡ Some n = sym held_here ∙ e in let same : claimed_node.0 ≡ n = cc in ap (λ (m : Node). is_claimed m.state) (sym same) ∙ claimed_node.2
+  pub held_claimed : (t : SuspState) → option_map (λ (n : Node). n.state) (at_place nodes s) ≡ Some t → is_claimed t ≡ true
+  held_claimed t e =
+      let z : Some claimed_node.0.state ≡ Some t = sym (ap (option_map (λ (n : Node). n.state)) claimed_node.1) ∙ (ap (option_map (λ (n : Node). n.state)) held_there ∙ e) in
+      let same : claimed_node.0.state ≡ t = cc in
+      ap is_claimed (sym same) ∙ claimed_node.2
 
-    pub held_is : (n : Node) (g : ℕ) → o ≡ Some n → n.state ≡ Claimed g → node_at (plain_world capacity row_capacity nodes rows) s ≡ Some (record { rec = n.rec; state = Claimed g })
-    held_is n g e f = node_read capacity row_capacity nodes rows s o read within_held ∙ (e ∙ ap {B = Option Node} (λ t. Some (record { rec = n.rec; state = t })) f)
+  pub held_is : (t : SuspState) → option_map (λ (n : Node). n.state) (at_place nodes s) ≡ Some t → (r : Rec) × (at_place nodes s ≡ Some (record { rec = r; state = t })) × (node_at (plain_world capacity row_capacity nodes rows) s ≡ Some (record { rec = r; state = t }))
+  held_is t e = let n = state_node (at_place nodes s) t e in (n.0, n.1, held_there ∙ n.1)
 
 -- an unbuilt claim is a claim
 pub unbuilt_held : (cs : List HeldClaim) (s : ℕ) → list_any (λ (c : HeldClaim). eqb c.place.0 s && not c.built) cs ≡ true → contains (claim_places cs) s ≡ true

@@ -1,5 +1,5 @@
 -- What each call keeps of a world of one thread and the claims on it.
-use Rattle.std.proofs.Common.{◌≡◌, ◌≢◌, ℕ, zero, suc, ◌<◌, Bool, true, false, List, [], ◌∷◌, length, Option, Some, None, refl, sym, ap, ◌∙◌, arith, subst, ◌⊎◌, inl, inr, ⊎_elim, cond, not, ◌&&◌, ◌||◌, eqb, ltb}
+use Rattle.std.proofs.Common.{◌≡◌, ◌≢◌, ℕ, zero, suc, ◌<◌, Bool, true, false, List, [], ◌∷◌, length, Option, Some, None, refl, sym, ap, ◌∙◌, arith, subst, ⊎_elim, cond, not, ◌&&◌, ◌||◌, eqb, ltb}
 use Rattle.std.specs.Prelude.{option_map, option_and_then}
 use Rattle.std.specs.List.{list_all, list_any}
 use Rattle.std.proofs.lemmas.Grind.{common_steps}
@@ -21,7 +21,7 @@ use Rattle.heap_store.specs.Lawful.{IsLawful, HasLaws, has_origin, has_maker_at,
 use Rattle.heap_store.specs.Hand.{is_marked_well, Hand, IsLawfulHand, contains, all_distinct, claim_places, fresh_claim, mark_newest, is_later, without_claim, newest_makes, is_at_offset, has_no_next, is_claim_well}
 use Rattle.heap_store.specs.Plain.{IsSeenWell}
 use Rattle.heap_store.proofs.GrowthLaws.{at_true}
-use Rattle.heap_store.proofs.ShowLaws.{one_value, node-same, node-other, show_adds, put_grows, recs-show, recs-show-all}
+use Rattle.heap_store.proofs.ShowLaws.{new_or_old, node-same, node-other, put_grows, recs-show, recs-show-all}
 use Rattle.heap_store.proofs.LawfulLaws.{some_to, some_from, within, lawful_names, lawful_put}
 use Rattle.heap_store.proofs.RowLaws.{legal_kept, roots_kept}
 use Rattle.heap_store.proofs.Steps.{places-mark}
@@ -90,11 +90,6 @@ module _ (w : World) (p : ℕ) (r : Rec) (inside : p < length w.nodes) (none : n
       (λ e. rw e (ap claimed_of (node-same w p r (Unforced 0) inside) ∙ sym (ap claimed_of none)))
       (λ ne. ap claimed_of (node-other w p r (Unforced 0) inside q ne)) (cases_eq q p)
 
-  which : (q : ℕ) (t : Rec) → recs (show w p r (Unforced 0)) q ≡ Some t → ((q ≡ p) × (t ≡ r)) ⊎ (recs w q ≡ Some t)
-  which q t e = let adds = show_adds w p r (Unforced 0) inside none in ⊎_elim
-      (λ eq. inl (eq, one_value t r (sym e ∙ ap (recs (show w p r (Unforced 0))) eq ∙ adds.there)))
-      (λ ne. inr (sym (adds.others q ne) ∙ e)) (cases_eq q p)
-
   no_next-put : (s : ℕ) (t : Rec) → has_no_next w s t ≡ true → (HasOffset (family_of s t).0 (suc (family_of s t).1) p r → ⊥) → has_no_next (show w p r (Unforced 0)) s t ≡ true
   no_next-put s t h apart = ap not (not_true (some_record (show w p r (Unforced 0)) (is_at_offset (family_of s t).0 (suc (family_of s t).1))) found)
     where
@@ -105,7 +100,7 @@ module _ (w : World) (p : ℕ) (r : Rec) (inside : p < length w.nodes) (none : n
           ⊎_elim
           (λ here. apart (offset_to (family_of s t).0 (suc (family_of s t).1) p r (subst (λ z. is_at_offset (family_of s t).0 (suc (family_of s t).1) p z ≡ true) here.1 (subst (λ z. is_at_offset (family_of s t).0 (suc (family_of s t).1) z x.1 ≡ true) here.0 x.3))))
           (λ was. (let y = some_from (length w.nodes) (recs w) (is_at_offset (family_of s t).0 (suc (family_of s t).1)) x.0 x.1 (within w x.0 x.1 was) was x.3 in let z : false ≡ true = sym (ap not y) ∙ h in true≢false (sym z)))
-          (which x.0 x.1 x.2)
+          (new_or_old w p r (Unforced 0) inside none x.0 x.1 x.2)
 
   -- a claim stays well, where the record isn't what it makes next
   claim-put : (c : HeldClaim) → is_claim_well w c ≡ true → (c.passed ≡ false → (t : Rec) → recs w c.place.0 ≡ Some t → HasOffset (family_of c.place.0 t).0 (suc (family_of c.place.0 t).1) p r → ⊥) → is_claim_well (show w p r (Unforced 0)) c ≡ true

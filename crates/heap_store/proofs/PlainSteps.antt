@@ -27,7 +27,8 @@ use Rattle.heap_store.specs.Plain.{IsPlain, IsSeenWell, plain_world, held_things
 use Rattle.heap_store.specs.Budget.{gain_at, is_funded, IsFunded, IsInBudget, alone_with, IsBalanced}
 use Rattle.heap_store.proofs.GrowthLaws.{at_true, grows_refl}
 use Rattle.heap_store.proofs.BudgetSteps.{put_names}
-use Rattle.heap_store.proofs.BudgetKept.{implies_to, put_funded, state_funded, reserved_balanced, put_balanced, won_balanced, completed_balanced, given_up_balanced}
+use Rattle.lazy_rec.proofs.TestLaws.{implies_to}
+use Rattle.heap_store.proofs.BudgetKept.{put_funded, state_funded, reserved_balanced, put_balanced, won_balanced, completed_balanced, given_up_balanced}
 use Rattle.heap_store.proofs.PlainBudget.{balanced_is, affordable_own}
 use Rattle.heap_store.proofs.ShowLaws.{one_value, put_grows, show_adds, state_grows, state-same, done-same}
 use Rattle.heap_store.proofs.LawfulLaws.{lawful_state}

@@ -1,12 +1,11 @@
 -- What the tests of the plain heap put and begin.
-use Rattle.std.proofs.Common.{◌≡◌, ℕ, zero, suc, ◌+◌, ◌<◌, ◌≤◌, true, not, ◌||◌, ◌&&◌, Bool, false, cond, Option, List, [], ◌∷◌, ◌++◌, Some, None, refl, sym, ap, ◌∙◌, subst, arith, eqb, ⊎_elim}
+use Rattle.std.proofs.Common.{◌≡◌, ℕ, zero, suc, ◌+◌, ◌≤◌, true, not, ◌||◌, ◌&&◌, Bool, false, cond, Option, List, [], ◌∷◌, Some, None, refl, sym, ap, ◌∙◌, subst, arith}
 use Rattle.std.specs.Prelude.{is_some, option_and_then}
-use Rattle.std.proofs.lemmas.Bool.{eq-eqb, or_left, or_right, cases_eq, true≢false}
+use Rattle.std.proofs.lemmas.Bool.{eq-eqb, or_left, true≢false}
 use Rattle.lazy_rec.specs.declared.records.Rec.TheVariants.{Leaf}
 use Rattle.lazy_rec.specs.declared.events.Event.{Event}
 use Rattle.lazy_rec.specs.declared.events.Op.TheVariants as ops
 use Rattle.lazy_rec.specs.declared.events.Kind.TheVariants as kinds
-use Rattle.heap_store.specs.Span.{Span}
 use Rattle.lazy_rec.specs.declared.events.Reply.{Reply}
 use Rattle.lazy_rec.specs.Kinds.{is_trim, is_split}
 use Rattle.lazy_rec.specs.History.{is_second, event_name, reply_to, has_smaller_bases, is_of_its_kind}
@@ -15,10 +14,10 @@ use Rattle.heap_store.specs.World.{World, recs}
 use Rattle.heap_store.specs.Rows.{Row, not_ended, first_of, second_of, reply_of, version_of, version_at, events_of, row_at, store_word}
 use Rattle.heap_store.specs.Legal.{IsLegal, is_begun_well, row_in_range}
 use Rattle.heap_store.specs.LookedAt.{HasRoots, row_has_looked}
-use Rattle.heap_store.proofs.Steps.{stored_alone}
+use Rattle.heap_store.proofs.Steps.{stored_alone, contains-append_right}
 use Rattle.heap_store.proofs.ShowLaws.{one_value}
-use Rattle.heap_store.specs.Hand.{Hand, IsInHand, contains, places_from}
-use Rattle.heap_store.specs.View.{View, About, Reserved, Fits}
+use Rattle.heap_store.specs.Hand.{Hand, contains}
+use Rattle.heap_store.specs.View.{View, About, Fits}
 use Rattle.heap_store.specs.Budget.{direct_at}
 use Rattle.heap_store.specs.RowCalls.{NameDrawn, MayStore, Stored}
 use Rattle.heap_store.specs.Opened.{opened_view}
@@ -32,20 +31,6 @@ leaf_fits v p = record {
   paid = omega arith;
   settled = refl;
 }
-
-contains-places : (first k p : ℕ) → first ≤ p → p < first + k → contains (places_from first k) p ≡ true
-contains-places first zero p low high = absurd (omega arith)
-contains-places first (suc k) p low high = ⊎_elim
-    (λ e. or_left _ _ (eq-eqb first p e))
-    (λ ne. or_right (eqb first p) _ (contains-places (suc first) k p (omega (arith, low, ne)) (omega (arith, high)))) (cases_eq first p)
-
-contains-behind : (xs ys : List ℕ) (p : ℕ) → contains ys p ≡ true → contains (xs ++ ys) p ≡ true
-contains-behind [] ys p h = h
-contains-behind (x ∷ xs) ys p h = or_right (eqb x p) _ (contains-behind xs ys p h)
-
--- the places of a run that was reserved are in the hand
-pub reserved_held : {old new : View} {k : ℕ} {run : Span} → Reserved old new k run → IsInHand new.hand run
-reserved_held {old} {new} {k} {run} r = subst (λ h. IsInHand h run) (sym r.hand) (record { each = λ p low high. contains-behind old.hand.reserved (places_from run.next k) p (contains-places run.next k p low (omega (arith, high, r.size))) })
 
 -- ---- the first event begins
 
@@ -122,7 +107,7 @@ module _ (n : ℕ) (v0 v1 : View) (name : ℕ) (e : v0 ≡ opened_view n 1) (d :
 
   pub may_begin : MayStore v1 name 0 8449
   may_begin = record {
-    drawn = ap (λ (h : Hand). contains h.names name) d.hand ∙ contains-behind v0.hand.names (name ∷ []) name (or_left _ _ (eq-eqb name name refl));
+    drawn = ap (λ (h : Hand). contains h.names name) d.hand ∙ contains-append_right v0.hand.names (name ∷ []) name (or_left _ _ (eq-eqb name name refl));
     word = omega arith;
     fits = refl;
     once = λ l. d.empty 0;

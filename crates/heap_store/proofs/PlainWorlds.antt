@@ -143,6 +143,7 @@ module _ (capacity row_capacity : ℕ) (nodes : List (Option Node)) (claims : Li
         plan = λ events e i r k. cc;
         hand = lawful_hand open_rows;
         words = words_wide;
+        unended = h.seen.unended;
         places = omega (arith, counted, all, h.fits);
         published_low = λ p is. (
             let t = published_rec (recs (plain_world capacity row_capacity nodes rows)) p (λ _. true) is in

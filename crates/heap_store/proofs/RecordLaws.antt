@@ -35,7 +35,7 @@ use Rattle.heap_store.specs.Growth.{Grows}
 use Rattle.lazy_rec.specs.Named.{Records, NamedPlace, named, sort_of, same_sort, at_record}
 use Rattle.lazy_rec.specs.Tests.{implies}
 
-stream_look : LooksAtNamed stream_of
+pub stream_look : LooksAtNamed stream_of
 stream_look (Cons _ _ rest) g h s = s.0
 stream_look (Append xs ys _ _ _) g h s = rw (s.0, s.1.0) refl
 stream_look (Reverse xs _) g h s = s.0
@@ -46,7 +46,7 @@ bank_look (Cons _ _ rest) g h s = s.0
 bank_look (BankRot xs _ _ _ _) g h s = s.0
 bank_look _ g h s = refl
 
-rt_look : LooksAtNamed rt_front_of
+pub rt_look : LooksAtNamed rt_front_of
 rt_look (Cons _ _ rest) g h s = s.0
 rt_look (RtRot xs _ acc _ _ _) g h s = rw (s.0, s.1.1.0) refl
 rt_look _ g h s = refl

@@ -1,5 +1,5 @@
 -- What publishing a record and changing a state keep.
-use Rattle.std.proofs.Common.{◌≡◌, ℕ, ◌<◌, ◌≤◌, sym, ap, ◌∙◌, arith, true, false, ⊎_elim, Option, Some, None, length}
+use Rattle.std.proofs.Common.{◌≡◌, ℕ, ◌<◌, ◌≤◌, sym, ap, ◌∙◌, arith, true, false, ⊎_elim, ◌⊎◌, inl, inr, Option, Some, None, length}
 use Rattle.std.specs.Prelude.{option_map, option_and_then, is_some}
 use Rattle.std.proofs.lemmas.List.{get_or-set_same, get_or-set_other}
 use Rattle.std.proofs.lemmas.Bool.{cases_eq}
@@ -33,6 +33,12 @@ module _ (w : World) (p : ℕ) (r : Rec) (s : SuspState) (within : p < length w.
     there = ap (option_map (λ (n : Node). n.rec)) node-same;
     others = λ q ne. ap (option_map (λ (n : Node). n.rec)) (node-other q ne);
   }
+
+  -- a record of the new world is the new one, or one of the old world
+  pub new_or_old : node_at w p ≡ None → (q : ℕ) (t : Rec) → recs (show w p r s) q ≡ Some t → ((q ≡ p) × (t ≡ r)) ⊎ (recs w q ≡ Some t)
+  new_or_old none q t e = let adds = show_adds none in ⊎_elim
+      (λ eq. inl (eq, one_value t r (sym e ∙ ap (recs (show w p r s)) eq ∙ adds.there)))
+      (λ ne. inr (sym (adds.others q ne) ∙ e)) (cases_eq q p)
 
   pub state-same : state_at (show w p r s) p ≡ Some s
   state-same = ap (option_map (λ (n : Node). n.state)) node-same

@@ -1,10 +1,11 @@
 -- The stages of an event take no more than the event may, and a completion no more places than its steps allow.
-use Rattle.std.proofs.Common.{ℕ, cond, eqb, ◌*◌, ◌+◌, ◌<◌, ◌≤◌, Bool, true, false, List, [], ◌∷◌, length, arith}
+use Rattle.std.proofs.Common.{ℕ, cond, eqb, ◌*◌, ◌+◌, ◌<◌, ◌≤◌, Bool, true, false, arith}
 use Rattle.lazy_rec.specs.declared.events.Kind.{Kind}
 use Rattle.lazy_rec.specs.declared.events.Kind.TheVariants as kinds
 use Rattle.lazy_rec.specs.declared.events.Op.{Op}
 use Rattle.lazy_rec.specs.declared.events.Op.TheVariants as ops
-use Rattle.lazy_rec.specs.Numbers.{count_true, binary, bits, ones, zeros}
+use Rattle.lazy_rec.proofs.Digits.{count_true-le}
+use Rattle.lazy_rec.specs.Numbers.{binary, bits, ones, zeros}
 use Rattle.heap_store.specs.declared.jobs.EventJob.{EventJob}
 use Rattle.heap_store.specs.Stages.{StageName, at_start, at_heap_paid, at_parts, at_root, position, left_from, name_of, stage_due, stage_places, due_now, places_now, due_left, places_left, direct_of, StagesSum}
 use Rattle.lazy_rec.specs.declared.records.Rec.{Rec}
@@ -13,13 +14,8 @@ use Rattle.lazy_rec.specs.Units.{steps}
 use Rattle.heap_store.specs.Jobs.{most_places}
 use Rattle.heap_store.specs.Stages.{StageName, at_start, at_heap_paid, at_parts, at_root, position, left_from, StagesSum}
 
-count_most : (ds : List Bool) → count_true ds ≤ length ds
-count_most [] = omega arith
-count_most (true ∷ ds) = omega (arith, count_most ds)
-count_most (false ∷ ds) = omega (arith, count_most ds)
-
 ones_zeros : (n : ℕ) → ones n + zeros n ≤ bits n
-ones_zeros n = omega (arith, count_most (binary n))
+ones_zeros n = omega (arith, count_true-le (binary n))
 
 pub stages_sum : (k : Kind) (op : Op) (n m : ℕ) → StagesSum k op n m
 stages_sum kinds.Heap ops.Min n m = record { dues = omega (arith, ones_zeros n); places = omega arith }

@@ -1,8 +1,8 @@
 -- How the steps of a heap compose.
-use Rattle.std.proofs.Common.{◌≡◌, ℕ, zero, suc, ◌+◌, ◌-◌, ◌≤◌, Bool, true, false, cond, ◌||◌, eqb, ⊎_elim, List, [], ◌∷◌, refl, sym, ap, ◌∙◌, arith, Some, None, drop, not, ◌&&◌, subst}
+use Rattle.std.proofs.Common.{◌≡◌, ℕ, zero, suc, ◌+◌, ◌-◌, ◌<◌, ◌≤◌, Bool, true, false, cond, ◌||◌, eqb, ⊎_elim, List, [], ◌∷◌, ◌++◌, refl, sym, ap, ◌∙◌, arith, Some, None, drop, not, ◌&&◌, subst}
 use Rattle.std.specs.Prelude.{filter, count_by, leb, ltb, slice_set, Option}
 use Rattle.std.proofs.lemmas.Grind.{common_steps}
-use Rattle.std.proofs.lemmas.Bool.{true≢false, cond-true, cond-false, eq-eqb, ne_eqb, cases_eq}
+use Rattle.std.proofs.lemmas.Bool.{true≢false, cond-true, cond-false, eq-eqb, ne_eqb, cases_eq, or_left, or_right}
 use Rattle.lazy_rec.specs.declared.places.Ref.{Ref}
 use Rattle.lazy_rec.specs.declared.records.Rec.{Rec}
 use Rattle.lazy_rec.specs.declared.records.Rec.TheVariants.{Reverse}
@@ -14,12 +14,12 @@ use Rattle.lazy_rec.specs.Named.{Records, is_pending}
 use Rattle.heap_store.specs.World.{World, Keeps, recs, show, SameAttempts}
 use Rattle.heap_store.specs.Rows.{store_word}
 use Rattle.heap_store.specs.RowCalls.{Stored, hand_stored}
-use Rattle.heap_store.specs.Hand.{Hand, KeepsWords, newest_makes, IsInHand, hand_mine, contains, without, claim_places, mark_newest, hand_put, is_later, credits_at, brings}
+use Rattle.heap_store.specs.Hand.{Hand, KeepsWords, newest_makes, IsInHand, hand_mine, contains, without, claim_places, mark_newest, places_from, hand_put, is_later, credits_at, brings}
 use Rattle.lazy_rec.specs.Units.{family_of, paid}
 use Rattle.heap_store.specs.Completion.{is_next}
 use Rattle.heap_store.specs.Budget.{gain_at}
 use Rattle.heap_store.proofs.UnitLaws.{gain_none}
-use Rattle.heap_store.specs.View.{View, About, Quiet, SameRows, Fits, Put, purse, unforced, is_unforced_node}
+use Rattle.heap_store.specs.View.{View, About, Quiet, SameRows, Fits, Put, Reserved, purse, unforced, is_unforced_node}
 use Rattle.heap_store.specs.declared.jobs.Cursor.{Cursor}
 use Rattle.lazy_rec.specs.Tests.{is_some_and}
 use Rattle.heap_store.specs.Lawful.{walk}
@@ -202,20 +202,11 @@ filling_start a run h =
 pub filling_quiet : {a b c : View} {before run : Span} {spent : ℕ} → IsFilling a b before run spent → Quiet b c → IsFilling a c before run spent
 filling_quiet f q = record { filled = Filled-quiet f.filled q; low = f.low; same_end = f.same_end; held = rw q.hand f.held; fresh = λ e. ap (λ (h : Hand). h.claims) q.hand ∙ f.fresh e; credits = rw q.hand f.credits }
 
-filling_by : {a b c : View} {before run run' : Span} {r : Rec} {spent : ℕ} (more : ℕ) → IsFilling a b before run spent → Put b c run.next r → run' ≡ record run { next = run.next + 1 } → purse b ≤ c.hand.credits + more → IsFilling a c before run' (spent + more)
-filling_by {a} {b} {c} {before} {run} {run'} {r} {spent} more f p e k =
-    let n = f.low in
-    let all : brought a before (record run { next = run.next + 1 }) ≡ brings (recs a.seen) a.hand.claims = cond-false (eqb before.next (run.next + 1)) 0 (brings (recs a.seen) a.hand.claims) (ne_eqb before.next (run.next + 1) (λ z. omega (arith, z, n))) in
-    rw e (record {
-      filled = Filled-put f.low f.filled p;
-      low = omega (arith, n);
-      same_end = f.same_end;
-      held = rw p.hand (IsInHand-next (recs b.seen) b.hand run r (gain_at b.seen run.next r) f.held);
-      fresh = λ z. absurd (omega (arith, z, n));
-      credits = omega (arith, all, k, ⊎_elim first later (cases_eq before.next run.next));
-    })
+-- what was spent and what is at hand cover what the hand had and what its newest claim brings
+pub filling_purse : {a b : View} {before run : Span} {spent : ℕ} → IsFilling a b before run spent → a.hand.credits + brings (recs a.seen) a.hand.claims ≤ purse b + spent
+filling_purse {a} {b} {before} {run} {spent} f = ⊎_elim first later (cases_eq before.next run.next)
   where
-    -- the first put brings what the newest claim brings
+    -- the first place brings what the newest claim brings
     first : before.next ≡ run.next → a.hand.credits + brings (recs a.seen) a.hand.claims ≤ purse b + spent
     first z =
         let none : brought a before run ≡ 0 = cond-true (eqb before.next run.next) 0 (brings (recs a.seen) a.hand.claims) (eq-eqb before.next run.next z) in
@@ -227,6 +218,19 @@ filling_by {a} {b} {c} {before} {run} {run'} {r} {spent} more f p e k =
     later ne =
         let some : brought a before run ≡ brings (recs a.seen) a.hand.claims = cond-false (eqb before.next run.next) 0 (brings (recs a.seen) a.hand.claims) (ne_eqb before.next run.next ne) in
         omega (arith, some, f.credits)
+
+filling_by : {a b c : View} {before run run' : Span} {r : Rec} {spent : ℕ} (more : ℕ) → IsFilling a b before run spent → Put b c run.next r → run' ≡ record run { next = run.next + 1 } → purse b ≤ c.hand.credits + more → IsFilling a c before run' (spent + more)
+filling_by {a} {b} {c} {before} {run} {run'} {r} {spent} more f p e k =
+    let n = f.low in
+    let all : brought a before (record run { next = run.next + 1 }) ≡ brings (recs a.seen) a.hand.claims = cond-false (eqb before.next (run.next + 1)) 0 (brings (recs a.seen) a.hand.claims) (ne_eqb before.next (run.next + 1) (λ z. omega (arith, z, n))) in
+    rw e (record {
+      filled = Filled-put f.low f.filled p;
+      low = omega (arith, n);
+      same_end = f.same_end;
+      held = rw p.hand (IsInHand-next (recs b.seen) b.hand run r (gain_at b.seen run.next r) f.held);
+      fresh = λ z. absurd (omega (arith, z, n));
+      credits = omega (arith, all, k, filling_purse f);
+    })
 
 -- after a put of a record that shows nothing
 pub filling_put : {a b c : View} {before run run' : Span} {r : Rec} {spent : ℕ} → IsFilling a b before run spent → Put b c run.next r → run' ≡ record run { next = run.next + 1 } → paid (recs b.seen) run.next r ≡ [] → IsFilling a c before run' spent
@@ -298,3 +302,19 @@ ready_is {told} {v} {s} {run} b r e = one_value b.ready.rec r (sym (b.base_grows
 -- the size of the run, where it is fixed
 pub ready_places : {told : Readiness} {v : View} {s : Ref} {run : Span} (b : IsBuildable told v s run) (r : Rec) → recs v.seen s.0 ≡ Some r → takes_most r ≡ true → b.nodes ≡ most_places r
 ready_places b r e fixed = let same = ready_is b r e in b.ready.exact (ap takes_most same ∙ fixed) ∙ ap most_places same
+
+-- ---- the places of a reserve
+
+pub contains-append_right : (xs ys : List ℕ) (p : ℕ) → contains ys p ≡ true → contains (xs ++ ys) p ≡ true
+contains-append_right [] ys p h = h
+contains-append_right (x ∷ xs) ys p h = or_right (eqb x p) _ (contains-append_right xs ys p h)
+
+pub contains-places_from : (n k p : ℕ) → n ≤ p → p < n + k → contains (places_from n k) p ≡ true
+contains-places_from n zero p low high = absurd (omega arith)
+contains-places_from n (suc k) p low high = ⊎_elim
+    (λ e. or_left _ _ (eq-eqb n p e))
+    (λ ne. or_right (eqb n p) _ (contains-places_from (suc n) k p (omega (arith, low, ne)) (omega (arith, high)))) (cases_eq n p)
+
+-- the places of a run that was reserved are in the hand
+pub reserved_held : {old new : View} {k : ℕ} {run : Span} → Reserved old new k run → IsInHand new.hand run
+reserved_held {old} {new} {k} {run} r = subst (λ h. IsInHand h run) (sym r.hand) (record { each = λ p low high. contains-append_right old.hand.reserved (places_from run.next k) p (contains-places_from run.next k p low (omega (arith, high, r.size))) })

@@ -1,41 +1,20 @@
 -- Units that are discharged stay so, and how many a record can show first.
-use Rattle.std.proofs.Common.{◌≡◌, ℕ, zero, suc, ◌<◌, ◌≤◌, ◌+◌, ◌-◌, refl, sym, ap, ◌∙◌, arith, max, ⊎_elim, Bool, true, false, cond, not, eqb, Option, Some, None, List, [], ◌∷◌, length}
-use Rattle.std.specs.List.{AllByRecursion, list_all}
+use Rattle.std.proofs.Common.{◌≡◌, ℕ, zero, suc, ◌<◌, ◌≤◌, ◌+◌, ◌-◌, refl, sym, ◌∙◌, arith, max, ⊎_elim, Bool, true, false, cond, not, eqb, Option, Some, None, List, [], ◌∷◌, length}
+use Rattle.std.specs.List.{list_all}
 use Rattle.std.specs.Set.{is_member}
 use Rattle.std.proofs.lemmas.List.Folds.{list_any-append}
 use Rattle.std.proofs.lemmas.Map.Made.{distinct_count-le}
 use Rattle.std.proofs.lemmas.Bool.{cases_lt, true≢false, cases_eq, eq-eqb, and_parts, and_from, or_left, or_right, or_cases}
 use Rattle.lazy_rec.specs.declared.places.Ref.{Ref}
 use Rattle.lazy_rec.specs.declared.records.Rec.{Rec}
-use Rattle.lazy_rec.specs.declared.records.Rec.TheVariants.{RtTop, HeapTop, HeapInsert, HeapMerge, BankRot}
-use Rattle.lazy_rec.specs.Named.{Records, named, at_record}
-use Rattle.lazy_rec.specs.Units.{WorkUnit, same_unit, units, units_from, units_below, list_units_of, list_units_at, list_units, schedule_units, family_of, paid}
+use Rattle.lazy_rec.specs.declared.records.Rec.TheVariants.{BankRot}
+use Rattle.lazy_rec.specs.Named.{Records, at_record}
+use Rattle.lazy_rec.specs.Units.{WorkUnit, same_unit, units, units_from, units_below, family_of, paid}
 use Rattle.heap_store.specs.World.{World, Keeps, recs}
 use Rattle.heap_store.specs.Budget.{discharged, all_discharged, are_discharged, unit_count, units_beyond, gain_at, is_funded, bank_family, other_family, is_settled}
-use Rattle.lazy_rec.proofs.ByPlaceLaws.{by_place_agree}
-use Rattle.heap_store.proofs.Alls.{All-map}
-use Rattle.heap_store.proofs.NameLaws.{IsPublished, IsNamedWell, NamesWell}
+use Rattle.heap_store.proofs.NameLaws.{NamesWell}
+use Rattle.heap_store.proofs.GainLaws.{paid_kept, names_there}
 use Rattle.heap_store.proofs.LawfulLaws.{within}
-
--- ---- what a record shows stays
-
-module _ (a b : Records) (names : NamesWell a) (keeps : Keeps a b) where
-  list_same : (p : ℕ) (g h : ℕ → List WorkUnit) (r : Rec) → AllByRecursion (λ q. g q.0 ≡ h q.0) (named r) → list_units_of g p r ≡ list_units_of h p r
-  list_same p g h (HeapInsert _ list _) s = rw s.0 refl
-  list_same p g h (HeapMerge list1 list2 _ _) s = rw (s.0, s.1.0) refl
-  list_same p g h _ s = refl
-
-  list_units_kept : (p : ℕ) → IsPublished a p → list_units a p ≡ list_units b p
-  unfolding list_units
-  list_units_kept = by_place_agree [] _ _ (IsPublished a) (λ p g h is same.
-      ap (list_units_at g p) is.1
-      ∙ list_same p g h is.0 (All-map (IsNamedWell a p) _ (λ q w. same q.0 w.0 (w.1, w.2)) (named is.0) (names p is.0 is.1))
-      ∙ sym (ap (list_units_at h p) (keeps p is.0 is.1)))
-
-  pub paid_kept : (p : ℕ) (r : Rec) → AllByRecursion (IsNamedWell a p) (named r) → paid a p r ≡ paid b p r
-  paid_kept p (RtTop _ _ _ _ sched) n = let there = n.1.1.0 in ap schedule_units (there.2 ∙ sym (keeps _ _ there.2))
-  paid_kept p (HeapTop list _ owed) n = rw (list_units_kept list.0 (n.0.1, n.0.2)) refl
-  paid_kept p _ n = refl
 
 -- a published record's units are discharged
 pub discharged_has : (rs : Records) (n p : ℕ) (r : Rec) → rs p ≡ Some r → p < n → (u : WorkUnit) → is_member same_unit (paid rs p r) u ≡ true → is_member same_unit (discharged rs n) u ≡ true
@@ -69,7 +48,7 @@ pub discharged_up : (a b : World) → NamesWell (recs a) → Keeps (recs a) (rec
 discharged_up a b names keeps u m =
     let s = discharged_by (recs a) (length a.nodes) u m in
     let e = keeps s.place s.rec s.here in
-    discharged_has (recs b) (length b.nodes) s.place s.rec e (within b s.place s.rec e) u (rw (paid_kept (recs a) (recs b) names keeps s.place s.rec (names s.place s.rec s.here)) at s.shows)
+    discharged_has (recs b) (length b.nodes) s.place s.rec e (within b s.place s.rec e) u (rw (paid_kept (recs a) (recs b) names keeps s.place s.rec (names_there (recs a) s.place s.rec (names s.place s.rec s.here))) at s.shows)
 
 pub all_up : {X : Type 0} (f g : X → Bool) → ((x : X) → f x ≡ true → g x ≡ true) → (xs : List X) → list_all f xs ≡ true → list_all g xs ≡ true
 all_up f g h [] k = refl

@@ -1,6 +1,7 @@
 -- Why an event ends without an answer, and what shows it: attempts at suspensions that were given back.
 use Rattle.std.specs.Prelude.{◌≡◌, ℕ, ◌≤◌, leb, ltb, Bool, true, false, ◌&&◌, ◌||◌, Option, Some, None, count_by}
 use Rattle.lazy_rec.specs.declared.records.Rec.{Rec}
+use Rattle.lazy_rec.specs.declared.limits.TheConstants.{ROOM_FOR_CLAIMS}
 use Rattle.lazy_rec.specs.Named.{is_pending}
 use Rattle.lazy_rec.specs.States.{given_up}
 use Rattle.heap_store.specs.declared.nodes.Node.{Node}
@@ -27,8 +28,8 @@ pub record IsFullCause (w : World) (direct wanted : ℕ) : Type 0 where
   pub asked : 1 ≤ wanted
   pub wanted_by : leb wanted direct || some_record w (may_have_wanted w wanted) ≡ true
 
--- the cause of an ending, in a world that shows the row. Only a force that holds 64 claims can want memory
+-- the cause of an ending, in a world that shows the row. Only a force that holds more claims than it has room for can want memory
 abbrev pub HasCause : World → ℕ → Ending → Type 0
 HasCause w direct (full _ wanted) = IsFullCause w direct wanted
-HasCause w direct memory = 64 ≤ given_back_count w
+HasCause w direct memory = ROOM_FOR_CLAIMS ≤ given_back_count w
 HasCause w direct _ = Unit {0}

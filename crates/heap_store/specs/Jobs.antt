@@ -246,8 +246,12 @@ may_stage_seek w t (Parts left right list listed) = is_reached w t left.0 || is_
 may_stage_seek w t (Root root _) = is_reached w t root.0
 may_stage_seek w t _ = false
 
+-- of the other version only what is reached in a finger tree
+abbrev pub other_seeks : World → EventJob → ℕ → Bool
+other_seeks w job t = holds (recs w) job.other.root.0 (λ r. same_sort (sort_of r) sorts.Finger) && is_reached w t job.other.root.0
+
 abbrev pub is_sought : World → EventJob → ℕ → Bool
-is_sought w job t = (holds (recs w) job.base.root.0 (may_seek w job.op job.base.root.0 t) || holds (recs w) job.other.root.0 (may_seek w job.op job.other.root.0 t)) || may_stage_seek w t job.stage
+is_sought w job t = (holds (recs w) job.base.root.0 (may_seek w job.op job.base.root.0 t) || other_seeks w job t) || may_stage_seek w t job.stage
 
 -- a suspension that the job needs, that isn't done yet, and that is paid for
 pub record IsEventNeed (does : Rec → Bool) (w : World) (job : EventJob) (t : ℕ) : Type 0 where

@@ -7,7 +7,7 @@ use Rattle.lazy_rec.specs.declared.events.Kind.TheVariants as kinds
 use Rattle.lazy_rec.specs.declared.events.Event.{Event}
 use Rattle.lazy_rec.specs.declared.events.Reply.{Reply}
 use Rattle.lazy_rec.specs.declared.events.Reply.TheVariants.{Number}
-use Rattle.lazy_rec.specs.declared.limits.TheConstants.{MOST_DRAWN}
+use Rattle.lazy_rec.specs.declared.limits.TheConstants.{MOST_CALLERS, MOST_DRAWN}
 use Rattle.lazy_rec.specs.Tests.{is_some_and}
 use Rattle.lazy_rec.specs.Kinds.{bases, same_kind, is_trim, is_split}
 use Rattle.lazy_rec.specs.Plain.{rising}
@@ -52,9 +52,9 @@ ending_in_range (full drawn wanted) = leb drawn MOST_DRAWN && ltb 0 wanted
 ending_in_range (answered told _ _) = reply_in_range told
 ending_in_range _ = true
 
--- a caller's number is below 64, and an argument has 64 bits
+-- a caller's number is one of the few that word 0 has room for, and an argument has 64 bits
 abbrev pub row_in_range : Row → Bool
-row_in_range r = ltb r.caller 64 && ltb r.event.arg (2 ^ 64) && ending_in_range r.ending
+row_in_range r = ltb r.caller MOST_CALLERS && ltb r.event.arg (2 ^ 64) && ending_in_range r.ending
 
 -- the rows are a legal history over these records
 pub record IsHistory (rs : Records) (rows : NamedRows) : Type 0 where

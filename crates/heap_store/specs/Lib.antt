@@ -24,9 +24,11 @@ pub mod Budget
 pub mod View
 pub mod Stages
 pub mod Jobs
+pub mod OneStage
 pub mod Causes
 pub mod RowCalls
 pub mod Shared
 pub mod Plain
 pub mod Props
+pub mod Slots
 pub mod Opened

@@ -1,10 +1,10 @@
 -- A running world and all the hands that work on it: each thing in hand is in exactly one hand, and two counters say how many
--- places and names were drawn. What one heap has seen lacks the other hands, so this is said of the actual world alone. Each
--- step of a hand keeps it.
-use Rattle.std.specs.Prelude.{◌≡◌, ◌≢◌, ℕ, ◌+◌, ◌*◌, ◌<◌, ◌≤◌, leb, ltb, min, Bool, true, cond, ◌&&◌, Option, Some, None, List, [], ◌∷◌, length, sum_by, option_and_then}
-use Rattle.std.specs.List.{AllByRecursion}
+-- places and names were drawn. What one heap has seen lacks the other hands, so this is said of the actual world alone. It is
+-- proved of a store in which nothing is drawn; no contract names it before a store is shared.
+use Rattle.std.specs.Prelude.{◌≡◌, ◌≢◌, ℕ, ◌+◌, ◌*◌, ◌<◌, ◌≤◌, leb, ltb, min, Bool, true, cond, ◌&&◌, Option, Some, None, List, [], ◌∷◌, ◌++◌, length, map, sum_by, is_some, option_and_then}
+use Rattle.std.specs.List.{AllByRecursion, list_all}
 use Rattle.lazy_rec.specs.declared.events.Event.{Event}
-use Rattle.lazy_rec.specs.declared.limits.TheConstants.{MOST_DRAWN}
+use Rattle.lazy_rec.specs.declared.limits.TheConstants.{MOST_CALLERS, MOST_NODES}
 use Rattle.lazy_rec.specs.Tests.{is_some_and}
 use Rattle.lazy_rec.specs.History.{event_of}
 use Rattle.heap_store.specs.declared.claims.Full.{Full}
@@ -58,9 +58,9 @@ added (Some f) = f.wanted
 abbrev pub added_in_vain : Counters → Running → ℕ
 added_in_vain c g = sum_by (λ (h : Hand). added h.vain) g.hands + sum_by (λ name. added (refusal_at g.world name)) c.vain_rows
 
--- an add in vain is in the counter's number
-abbrev pub is_counted : Counters → Full → Bool
-is_counted c f = leb (f.drawn + f.wanted) c.places
+-- an add in vain is in the counter's number, and wanted no more places than the store has
+abbrev pub is_counted : ℕ → Counters → Full → Bool
+is_counted capacity c f = leb (f.drawn + f.wanted) c.places && leb f.wanted capacity
 
 -- ---- the plan
 
@@ -71,11 +71,31 @@ pub record HasWords (w : World) (name : ℕ) (e : Event) : Type 0 where
 
 -- ---- callers
 
--- each hand, in order, has a caller's number, and knows all rows of this number
+abbrev pub is_caller : ℕ → Bool
+is_caller i = ltb i MOST_CALLERS
+
+-- a hand knows all rows of its caller's number, and the rows of its names have this number
+pub record KnowsItsRows (w : World) (caller : ℕ) (h : Hand) : Type 0 where
+  pub all : (i : ℕ) (r : Row) → row_at w i ≡ Some r → r.caller ≡ caller → contains h.mine i ≡ true
+  pub own : (i : ℕ) (r : Row) → row_at w i ≡ Some r → contains h.names i ≡ true → r.caller ≡ caller
+
+-- each hand, in order, has a caller's number
 abbrev pub KnowTheirRows : World → List ℕ → List Hand → Type 0
 KnowTheirRows w [] [] = Unit {0}
-KnowTheirRows w (caller ∷ callers) (h ∷ hs) = ((i : ℕ) (r : Row) → row_at w i ≡ Some r → r.caller ≡ caller → contains h.mine i ≡ true) × KnowTheirRows w callers hs
+KnowTheirRows w (caller ∷ callers) (h ∷ hs) = KnowsItsRows w caller h × KnowTheirRows w callers hs
 KnowTheirRows w _ _ = ⊥
+
+abbrev pub caller_at : World → ℕ → ℕ
+caller_at w name = elim (row_at w name) [ None ↦ 0 | Some r ↦ r.caller ]
+
+-- the callers whose hands have numbers of an add in vain
+abbrev pub vain_callers : List ℕ → List Hand → List ℕ
+vain_callers (caller ∷ callers) (h ∷ hs) = cond (is_some h.vain) (caller ∷ vain_callers callers hs) (vain_callers callers hs)
+vain_callers _ _ = []
+
+-- all callers that added in vain: those, and the callers of the rows that tell of it
+abbrev pub adders : List ℕ → Counters → Running → List ℕ
+adders callers c g = vain_callers callers g.hands ++ map (caller_at g.world) c.vain_rows
 
 -- ---- a shared store
 
@@ -85,6 +105,7 @@ pub record IsShared (capacity : ℕ) (callers : List ℕ) (c : Counters) (g : Ru
   pub hands : AllByRecursion (IsLawfulHand g.world) g.hands
   pub mine : KnowTheirRows g.world callers g.hands
   pub callers_once : all_distinct callers ≡ true
+  pub callers_few : list_all is_caller callers ≡ true
   -- a claimed suspension, a given place that isn't published, and a drawn name that isn't ended are in exactly one hand
   pub claims : (s : ℕ) → hand_count (λ h. holds_claim h s) g ≡ one_if (is_claimed_at g.world s)
   pub places : (p : ℕ) → hand_count (λ h. contains h.reserved p) g + one_if (is_published (recs g.world) p) ≡ one_if (is_given c p)
@@ -96,12 +117,14 @@ pub record IsShared (capacity : ℕ) (callers : List ℕ) (c : Counters) (g : Ru
   pub plan_words : (events : List Event) → g.plan ≡ Some events → (i : ℕ) (e : Event) → event_of events i ≡ Some e → HasWords g.world i e
   -- the counter of places has what was given and what was added in vain. An add in vain leaves it above the capacity, so that
   -- from then on each reserve is refused
+  pub small : capacity ≤ MOST_NODES
   pub room : c.given ≤ capacity
   pub counted : c.places ≡ c.given + added_in_vain c g
   pub refused : 1 ≤ added_in_vain c g → capacity < c.places
-  pub low : c.places ≤ MOST_DRAWN
   -- what stands in hands and in rows of adds in vain. No row tells of a number that the counter hasn't reached
-  pub vain_hands : AllByRecursion (λ (h : Hand). (f : Full) → h.vain ≡ Some f → is_counted c f ≡ true) g.hands
-  pub vain_rows : (i : ℕ) → contains c.vain_rows i ≡ true → is_some_and (is_counted c) (refusal_at g.world i) ≡ true
-  pub vain_once : all_distinct c.vain_rows ≡ true
+  pub vain_hands : AllByRecursion (λ (h : Hand). (f : Full) → h.vain ≡ Some f → is_counted capacity c f ≡ true) g.hands
+  pub vain_rows : (i : ℕ) → contains c.vain_rows i ≡ true → is_some_and (is_counted capacity c) (refusal_at g.world i) ≡ true
   pub full_rows : (i : ℕ) (f : Full) → refusal_at g.world i ≡ Some f → f.drawn ≤ c.places
+  -- each caller has added in vain at most once, so the counter never passes `MOST_DRAWN`
+  pub adders_once : all_distinct (adders callers c g) ≡ true
+  pub adders_few : list_all is_caller (adders callers c g) ≡ true

@@ -5,7 +5,7 @@ use Rattle.lazy_rec.specs.declared.places.Ref.{Ref}
 use Rattle.lazy_rec.specs.declared.records.Rec.{Rec}
 use Rattle.lazy_rec.specs.declared.states.SuspState.TheVariants.{Unforced, Claimed, Done}
 use Rattle.lazy_rec.specs.declared.events.Event.{Event}
-use Rattle.lazy_rec.specs.declared.limits.TheConstants.{MOST_DRAWN, MOST_EVENTS, MOST_PLACES}
+use Rattle.lazy_rec.specs.declared.limits.TheConstants.{MOST_DRAWN, MOST_EVENTS, MOST_GIVEN_UP, MOST_PLACES}
 use Rattle.lazy_rec.specs.Named.{is_pending}
 use Rattle.lazy_rec.specs.States.{is_unforced}
 use Rattle.heap_store.specs.declared.nodes.Node.{Node}
@@ -15,7 +15,7 @@ use Rattle.heap_store.specs.declared.claims.Full.{Full}
 use Rattle.heap_store.specs.declared.claims.OpenRow.{OpenRow}
 use Rattle.heap_store.specs.Span.{Span}
 use Rattle.heap_store.specs.World.{World, recs, is_published, state_at, done_at, is_claimed_at, show, fixed_places}
-use Rattle.heap_store.specs.Rows.{Row, row_at, words_at, is_ended_at}
+use Rattle.heap_store.specs.Rows.{Row, row_at, words_at, word_at, is_ended_at}
 use Rattle.heap_store.specs.Growth.{Grows}
 use Rattle.heap_store.specs.Legal.{IsLegal, FollowsPlan}
 use Rattle.heap_store.specs.Lawful.{HasLaws, IsLawful, IsDoneWell, has_origin}
@@ -82,6 +82,8 @@ pub record IsLawfulView (v : View) : Type 0 where
   -- there are so few rows that each row's name is the number of its first version
   pub rows_few : v.about.rows ≤ MOST_EVENTS
   pub rows_low : (i : ℕ) (r : Row) → row_at v.seen i ≡ Some r → i ≤ v.about.rows
+  -- the end word of a row is 0 until the row has ended
+  pub unended : (i : ℕ) → is_ended_at (row_at v.seen) i ≡ false → word_at v.seen i 5 ≡ 0
   -- the hand agrees with it. Each name in hand is one of the store's, and the rows that are worked on are among them
   pub hand : IsLawfulHand v.seen v.hand
   pub names_low : (i : ℕ) → contains v.hand.names i ≡ true → i ≤ v.about.rows
@@ -230,9 +232,9 @@ pub record Completed (old new : View) (s place steps : ℕ) : Type 0 where
 pub record GivenUp (old new : View) (s : ℕ) : Type 0 where
   pub grows : Grows old.seen new.seen
   pub words : KeepsWords old.hand old.seen new.seen
-  pub state : (g : ℕ) → state_at old.seen s ≡ Some (Claimed g) → state_at new.seen s ≡ Some (Unforced (min (g + 1) 65535))
+  pub state : (g : ℕ) → state_at old.seen s ≡ Some (Claimed g) → state_at new.seen s ≡ Some (Unforced (min (g + 1) MOST_GIVEN_UP))
   pub hand : new.hand ≡ hand_given_up (recs old.seen) old.hand s
   pub refusals : new.refusals ≡ old.refusals
   pub about : new.about ≡ old.about
   pub alone : old.about.alone ≡ true → SameRows old new × (new.drawn ≡ old.drawn)
-  pub shown : old.about.alone ≡ true → (r : Rec) × (g : ℕ) × (state_at old.seen s ≡ Some (Claimed g)) × (new.seen ≡ show old.seen s r (Unforced (min (g + 1) 65535)))
+  pub shown : old.about.alone ≡ true → (r : Rec) × (g : ℕ) × (state_at old.seen s ≡ Some (Claimed g)) × (new.seen ≡ show old.seen s r (Unforced (min (g + 1) MOST_GIVEN_UP)))

@@ -10,6 +10,7 @@ pub mod jobs;
 pub mod nodes;
 pub mod plain;
 pub mod run;
+pub mod slots;
 pub mod versions;
 
 pub use cells::{Cell, first_cell, list_cell, value_of, value_place};

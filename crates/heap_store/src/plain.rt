@@ -1,9 +1,9 @@
 //! The store of one thread, over vectors.
-ghost use Rattle.std.specs.Prelude.{◌≡◌, ℕ, ◌+◌, ◌<◌, ◌≤◌, [], ◌∷◌, ◌++◌, ◌||◌, true, reverse, replicate, map, slice_index, vec_len, vec_capacity};
+ghost use Rattle.std.specs.Prelude.{◌≡◌, ℕ, ◌+◌, ◌<◌, ◌≤◌, [], ◌∷◌, ◌++◌, ◌||◌, true, reverse, map, slice_index, vec_len, vec_capacity};
 ghost use Rattle.lazy_rec.specs.declared.limits.TheConstants.{MOST_EVENTS, MOST_NODES};
 ghost use Rattle.heap_store.specs.World.{fixed_places};
-ghost use Rattle.heap_store.specs.Hand.{without_claim, is_later, mark_newest, all_distinct, claim_places};
-ghost use Rattle.heap_store.specs.Plain.{IsPlain, plain_view, fresh_node, five_records, rows_after_word, begun_count};
+ghost use Rattle.heap_store.specs.Hand.{without_claim, is_later, mark_newest, all_distinct, claim_places, rows_after_end};
+ghost use Rattle.heap_store.specs.Plain.{IsPlain, plain_view, five_records, rows_after_word, begun_count};
 ghost use Rattle.heap_store.specs.Props.{IsPlain-prop, IsLawfulView-prop};
 ghost use Rattle.heap_store.specs.View.{IsLawfulView};
 ghost use Rattle.heap_store.specs.RowCalls.{begins_row};
@@ -12,6 +12,7 @@ use crate::claims::{Claim, Full, HeldClaim, NamesFull, OpenRow};
 use crate::heap::{Claims, Heap, Rows};
 use crate::nodes::Node;
 use crate::run::Run;
+use crate::slots::DrawnPlaces;
 use lazy_rec::{NoMemory, Rec, Ref, SuspState};
 use std::alloc::Global;
 
@@ -19,7 +20,7 @@ use std::alloc::Global;
 /// as they are drawn, so a large store that is little used touches little memory.
 #[derive(Drop)]
 pub struct PlainHeap {
-    nodes: Vec<Option<Node>>,
+    nodes: DrawnPlaces,
     claims: Vec<HeldClaim>,
     rows: Vec<[u64; 8]>,
     open_rows: Vec<OpenRow>,
@@ -27,13 +28,13 @@ pub struct PlainHeap {
     row_capacity: u32,
     refused: u64,
     last: Full,
-    ghost node_room: { fixed_places + capacity ≤ vec_capacity nodes },
+    ghost node_room: { nodes.room ≡ fixed_places + capacity },
     ghost claim_room: { fixed_places + capacity ≤ vec_capacity claims },
     ghost row_room: { row_capacity ≤ vec_capacity rows },
     ghost open_room: { row_capacity ≤ vec_capacity open_rows },
     ghost crowd: { vec_len open_rows ≤ begun_count rows.items },
-    ghost plain: { IsPlain capacity row_capacity nodes.items (reverse claims.items) rows.items } by { IsPlain-prop capacity row_capacity nodes.items (reverse claims.items) rows.items },
-    ghost law: { IsLawfulView (plain_view nodes.items (reverse claims.items) rows.items open_rows.items capacity row_capacity refused last) } by { IsLawfulView-prop (plain_view nodes.items (reverse claims.items) rows.items open_rows.items capacity row_capacity refused last) },
+    ghost plain: { IsPlain capacity row_capacity nodes.shown (reverse claims.items) rows.items } by { IsPlain-prop capacity row_capacity nodes.shown (reverse claims.items) rows.items },
+    ghost law: { IsLawfulView (plain_view nodes.shown (reverse claims.items) rows.items open_rows.items capacity row_capacity refused last) } by { IsLawfulView-prop (plain_view nodes.shown (reverse claims.items) rows.items open_rows.items capacity row_capacity refused last) },
 }
 
 impl PlainHeap {
@@ -46,11 +47,10 @@ impl PlainHeap {
         requires rows { rows ≤ MOST_EVENTS }
         ensures { IfOk result (λ h. view_of h ≡ opened_view nodes rows) }
     {
-        let places = nodes as usize + 5;
-        let Ok(node_room) = Vec::with_capacity(alloc, places) else {
+        let Ok(places) = DrawnPlaces::with_room(alloc, nodes + 5) else {
             return Err(NoMemory)
         };
-        let Ok(claims) = Vec::with_capacity(alloc, places) else {
+        let Ok(claims) = Vec::with_capacity(alloc, nodes as usize + 5) else {
             return Err(NoMemory)
         };
         let Ok(row_room) = Vec::with_capacity(alloc, rows as usize) else {
@@ -60,7 +60,7 @@ impl PlainHeap {
             return Err(NoMemory)
         };
         Ok(PlainHeap {
-            nodes: with_fixed_records(node_room),
+            nodes: with_fixed_records(places),
             claims,
             rows: row_room,
             open_rows,
@@ -101,66 +101,38 @@ impl PlainHeap {
     pub fn node(&self, place: Ref) -> Option<Node>
         ensures { result ≡ node_at (view_of self.now).seen place.0 }
     {
-        if (place.0 as usize) < self.nodes.len() {
-            self.nodes[place.0 as usize]
-        } else {
-            None
-        }
+        self.nodes.get(place)
     }
 }
 
-/// The record of a fresh place.
-const fn fresh(rec: Rec) -> Option<Node>
-    ensures { result ≡ fresh_node rec }
+/// Publishes the five fixed records where no place is drawn.
+fn with_fixed_records(places: DrawnPlaces) -> DrawnPlaces
+    requires empty { places.shown ≡ [] }
+    requires room { fixed_places ≤ places.room }
+    ensures { result ≡ record places { shown = five_records } }
 {
-    Some(Node {
-        rec,
-        state: SuspState::Unforced { given_up: 0 },
-    })
-}
-
-/// Publishes the five fixed records in an empty vector that has room for them.
-fn with_fixed_records(nodes: Vec<Option<Node>>) -> Vec<Option<Node>>
-    requires empty { nodes.items ≡ [] }
-    requires room { fixed_places ≤ vec_capacity nodes }
-    ensures items { result.items ≡ five_records }
-    ensures room { vec_capacity nodes ≤ vec_capacity result }
-{
-    let mut nodes = nodes;
-    add(&mut nodes, fresh(Rec::Nil));
-    add(&mut nodes, fresh(Rec::LNil));
-    add(&mut nodes, fresh(Rec::TNil));
-    add(&mut nodes, fresh(Rec::CatNil));
-    add(&mut nodes, fresh(Rec::TEmpty));
-    nodes
+    let mut places = places;
+    places.draw(5);
+    places.publish(Ref(0), Rec::Nil);
+    places.publish(Ref(1), Rec::LNil);
+    places.publish(Ref(2), Rec::TNil);
+    places.publish(Ref(3), Rec::CatNil);
+    places.publish(Ref(4), Rec::TEmpty);
+    places
 }
 
 /// Puts a value behind the others, for which there is room.
-#[inline]
+#[inline(always)]
 fn add<T: Drop>(values: &mut Vec<T>, value: T)
     requires { vec_len values.old < vec_capacity values.old }
     ensures items { values.new.items ≡ values.old.items ++ value ∷ [] }
     ensures room { vec_capacity values.old ≤ vec_capacity values.new }
 {
-    match values.push(value) {
-        Ok(()) => {}
-        Err(_) => unreachable!(),
-    }
-}
-
-/// Puts so many places that show nothing behind the others, for which there is room.
-fn add_free_places(nodes: &mut Vec<Option<Node>>, k: u32)
-    requires { vec_len nodes.old + k ≤ vec_capacity nodes.old }
-    ensures items { nodes.new.items ≡ nodes.old.items ++ replicate k None }
-    ensures room { vec_capacity nodes.old ≤ vec_capacity nodes.new }
-{
-    for _ in 0..k {
-        add(nodes, None);
-    }
+    values.push_reserved(value);
 }
 
 /// Whether a record is a later suspension of a family, and not the first one.
-#[inline]
+#[inline(always)]
 fn is_later(rec: &Rec) -> bool
     ensures { result ≡ is_later 0 rec.now }
 {
@@ -179,7 +151,7 @@ fn is_later(rec: &Rec) -> bool
 }
 
 /// A claim whose attempt has published a place, or the next suspension of its family.
-#[inline]
+#[inline(always)]
 fn marked(claim: HeldClaim, later: bool) -> HeldClaim
     ensures { result ≡ record claim { built = true; passed = claim.passed || later } }
 {
@@ -191,7 +163,7 @@ fn marked(claim: HeldClaim, later: bool) -> HeldClaim
 }
 
 /// The newest claim's attempt has published a place, or the next suspension of its family.
-#[inline]
+#[inline(always)]
 fn mark_newest(claims: &mut Vec<HeldClaim>, later: bool)
     ensures items { reverse claims.new.items ≡ mark_newest later (reverse claims.old.items) }
     ensures room { vec_capacity claims.new ≡ vec_capacity claims.old }
@@ -223,24 +195,19 @@ impl Heap for PlainHeap {
 
     ghost view = { view_of };
 
-    #[inline]
+    #[inline(always)]
     fn read(&mut self, r: Ref) -> Rec {
-        match self.nodes[r.0 as usize] {
-            Some(node) => node.rec,
-            None => unreachable!(),
-        }
+        self.nodes.rec(r)
     }
 
-    #[inline]
+    #[inline(always)]
     fn state(&mut self, s: Ref) -> SuspState {
-        match self.nodes[s.0 as usize] {
-            Some(node) => node.state,
-            None => unreachable!(),
-        }
+        self.nodes.state(s)
     }
 
+    #[inline(always)]
     fn reserve(&mut self, k: u32) -> Result<Run, Full> {
-        let drawn = self.nodes.len() as u32 - 5;
+        let drawn = self.nodes.drawn() - 5;
         if k > self.capacity - drawn {
             let full = Full {
                 drawn: drawn as u64,
@@ -252,14 +219,14 @@ impl Heap for PlainHeap {
             return Err(full);
         }
         let first = drawn + 5;
-        add_free_places(&mut self.nodes, k);
+        self.nodes.draw(k);
         Ok(Run::new(first, first + k))
     }
 
-    #[inline]
+    #[inline(always)]
     fn put(&mut self, run: &mut Run, rec: Rec) -> Ref {
         let place = run.step();
-        self.nodes[place.0 as usize] = fresh(rec);
+        self.nodes.publish(place, rec);
         mark_newest(&mut self.claims, is_later(&rec));
         place
     }
@@ -268,6 +235,8 @@ impl Heap for PlainHeap {
 }
 
 /// A refusal is noted of each row that is worked on.
+#[cold]
+#[inline(never)]
 fn note_refusal(rows: &mut Vec<OpenRow>)
     ensures items { rows.new.items ≡ map (λ (o : OpenRow). record o { refused = true }) rows.old.items }
     ensures room { vec_capacity rows.new ≡ vec_capacity rows.old }
@@ -281,17 +250,11 @@ fn note_refusal(rows: &mut Vec<OpenRow>)
 }
 
 impl Claims for PlainHeap {
-    #[inline]
+    #[inline(always)]
     fn claim(&mut self, s: Ref) -> Claim {
-        let Some(node) = self.nodes[s.0 as usize] else {
-            unreachable!()
-        };
-        match node.state {
+        match self.nodes.state(s) {
             SuspState::Unforced { given_up } => {
-                self.nodes[s.0 as usize] = Some(Node {
-                    rec: node.rec,
-                    state: SuspState::Claimed { given_up },
-                });
+                self.nodes.set_state(s, SuspState::Claimed { given_up });
                 add(
                     &mut self.claims,
                     HeldClaim {
@@ -308,36 +271,30 @@ impl Claims for PlainHeap {
     }
 
     fn complete(&mut self, s: Ref, place: Ref, steps: u32) {
-        let Some(node) = self.nodes[s.0 as usize] else {
+        let SuspState::Claimed { given_up } = self.nodes.state(s) else {
             unreachable!()
         };
-        let SuspState::Claimed { given_up } = node.state else {
-            unreachable!()
-        };
-        self.nodes[s.0 as usize] = Some(Node {
-            rec: node.rec,
-            state: SuspState::Done {
+        self.nodes.set_state(
+            s,
+            SuspState::Done {
                 place,
                 steps,
                 given_up,
             },
-        });
+        );
         release(&mut self.claims, s);
     }
 
     fn give_up(&mut self, s: Ref) {
-        let Some(node) = self.nodes[s.0 as usize] else {
+        let SuspState::Claimed { given_up } = self.nodes.state(s) else {
             unreachable!()
         };
-        let SuspState::Claimed { given_up } = node.state else {
-            unreachable!()
-        };
-        self.nodes[s.0 as usize] = Some(Node {
-            rec: node.rec,
-            state: SuspState::Unforced {
+        self.nodes.set_state(
+            s,
+            SuspState::Unforced {
                 given_up: given_up.saturating_add(1),
             },
-        });
+        );
         release(&mut self.claims, s);
     }
 }
@@ -350,7 +307,21 @@ fn word_of(row: &[u64; 8], word: u32) -> u64
     row[word as usize]
 }
 
+/// The row of this name is ended: it is none of those that are worked on. Mostly it is the only one.
+#[inline(always)]
+fn close(rows: &mut Vec<OpenRow>, name: u32)
+    ensures items { rows.new.items ≡ rows_after_end name rows.old.items }
+    ensures room { vec_capacity rows.new ≡ vec_capacity rows.old }
+{
+    if rows.len() == 1 && rows[0].name == name {
+        rows.clear();
+    } else {
+        rows.retain(|o| o.name != name);
+    }
+}
+
 /// A word of the row of this name is stored: the row begins, or ends.
+#[inline(always)]
 fn note_word(rows: &mut Vec<OpenRow>, name: u32, word: u32, value: u64)
     requires room { begins_row word value ≡ true → vec_len rows.old < vec_capacity rows.old }
     ensures items { rows.new.items ≡ rows_after_word name word value rows.old.items }
@@ -364,12 +335,13 @@ fn note_word(rows: &mut Vec<OpenRow>, name: u32, word: u32, value: u64)
                 refused: false,
             },
         ),
-        5 => rows.retain(|o| o.name != name),
+        5 => close(rows, name),
         _ => {}
     }
 }
 
 impl Rows for PlainHeap {
+    #[inline]
     fn draw_name(&mut self) -> Result<u32, NamesFull> {
         let drawn = self.rows.len() as u32;
         if drawn == self.row_capacity {
@@ -381,11 +353,13 @@ impl Rows for PlainHeap {
         Ok(drawn + 1)
     }
 
+    #[inline]
     fn store_row(&mut self, name: u32, word: u32, value: u64) {
         self.rows[name as usize - 1][word as usize] = value;
         note_word(&mut self.open_rows, name, word, value);
     }
 
+    #[inline]
     fn load_row(&mut self, name: u32, word: u32) -> u64 {
         let at = name as usize - 1;
         if at < self.rows.len() {
@@ -396,7 +370,7 @@ impl Rows for PlainHeap {
     }
 
     fn load_counts(&mut self) -> (u64, u64) {
-        (self.rows.len() as u64, self.nodes.len() as u64 - 5)
+        (self.rows.len() as u64, u64::from(self.nodes.drawn()) - 5)
     }
 }
 

@@ -1,7 +1,6 @@
-use Rattle.std.proofs.Common.{sym, None, ◌+◌, arith}
-use Rattle.heap_store.specs.World.{fixed_places}
-use Rattle.heap_store.proofs.PlainLists.{filled-beyond}
+use Rattle.std.proofs.Common.{sym, ◌∙◌}
+use Rattle.heap_store.proofs.PlainReads.{node_shown}
 use Rattle.heap_store.proofs.plain.PlainHeap.node.Goals as goal
 
-pub returns-else-place-len : goal.returns-else-place-len
-returns-else-place-len c = sym (filled-beyond None (fixed_places + c.args.self.now.capacity) c.args.self.now.nodes.items c.args.place.0 (omega (arith, c.len.ensures, c.if-place-len.false)))
+pub returns : goal.returns
+returns c = let h = c.args.self.now in c.get.ensures ∙ sym (node_shown h.capacity h.row_capacity h.nodes.shown h.rows.items c.args.place.0)

@@ -1,6 +1,8 @@
-use Rattle.std.proofs.Common.{arith, ◌≡◌, Some, ap, reverse, ◌<◌, length, ◌∙◌, ◌∷◌, [], slice_set, true}
+use Rattle.std.proofs.Common.{arith, ◌≡◌, Option, Some, ap, reverse, ◌<◌, length, ◌∙◌, ◌∷◌, [], true}
 use Rattle.std.specs.Prelude.{option_and_then}
 use Rattle.std.proofs.lemmas.List.{reverse-append, length-reverse}
+use Rattle.lazy_rec.specs.declared.records.Rec.{Rec}
+use Rattle.lazy_rec.specs.declared.states.SuspState.{SuspState}
 use Rattle.lazy_rec.specs.declared.states.SuspState.TheVariants.{Unforced, Claimed, Done}
 use Rattle.lazy_rec.specs.Named.{is_pending}
 use Rattle.lazy_rec.specs.States.{kept}
@@ -10,49 +12,59 @@ use Rattle.heap_store.specs.Hand.{fresh_claim}
 use Rattle.heap_store.specs.Budget.{is_funded}
 use Rattle.heap_store.specs.Plain.{IsPlain, plain_world, is_claimed_node}
 use Rattle.heap_store.proofs.Steps.{Quiet_refl}
-use Rattle.heap_store.proofs.PlainReads.{none_read, node_is, passed_read, within_read}
+use Rattle.heap_store.specs.Slots.{at_place}
+use Rattle.heap_store.proofs.PlainReads.{with_state, there, shown_read, state_node, passed_at}
 use Rattle.heap_store.proofs.PlainWorlds.{plain_lawful}
 use Rattle.heap_store.proofs.PlainSteps.{won_plain, won_view, room_left}
 use Rattle.heap_store.proofs.plain.PlainHeapClaims.claim.Goals as goal
 use Rattle.heap_store.proofs.plain.PlainHeapClaims.claim.Goals.{In-Unforced, After-add}
 
-here : (c : In-Unforced) → node_at (plain_world c.args.self.now.capacity c.args.self.now.row_capacity c.args.self.now.nodes.items c.args.self.now.rows.items) c.args.s.0 ≡ Some (record { rec = c.in-Some.node.rec; state = Unforced c.in-Unforced.given_up })
-here c = let h = c.args.self.now in node_is h.capacity h.row_capacity h.nodes.items h.rows.items c.args.s.0 is_pending c.requires.pending c.index.result.now c.index.ensures c.in-Some.node (Unforced c.in-Unforced.given_up) c.in-Some.is c.in-Unforced.is
+-- the node whose state was read
+node : (c : In-Unforced) → (r : Rec) × (at_place c.args.self.now.nodes.shown c.args.s.0 ≡ Some (record { rec = r; state = Unforced c.in-Unforced.given_up }))
+node c = state_node (at_place c.args.self.now.nodes.shown c.args.s.0) (Unforced c.in-Unforced.given_up) (c.state.ensures ∙ ap {B = Option SuspState} (λ t. Some t) c.in-Unforced.is)
 
-pending : (c : In-Unforced) → is_pending c.in-Some.node.rec ≡ true
-pending c = let h = c.args.self.now in passed_read h.capacity h.row_capacity h.nodes.items h.rows.items c.args.s.0 is_pending c.requires.pending c.index.result.now c.index.ensures c.in-Some.node c.in-Some.is
+here : (c : In-Unforced) → node_at (plain_world c.args.self.now.capacity c.args.self.now.row_capacity c.args.self.now.nodes.shown c.args.self.now.rows.items) c.args.s.0 ≡ Some (record { rec = (node c).0; state = Unforced c.in-Unforced.given_up })
+here c = let h = c.args.self.now in there h.capacity h.row_capacity h.nodes.shown h.rows.items c.args.s.0 is_pending c.requires.pending ∙ (node c).1
 
-paid : (c : In-Unforced) → is_funded (plain_world c.args.self.now.capacity c.args.self.now.row_capacity c.args.self.now.nodes.items c.args.self.now.rows.items) c.args.s.0 c.in-Some.node.rec ≡ true
+pending : (c : In-Unforced) → is_pending (node c).0 ≡ true
+pending c = let h = c.args.self.now in passed_at (plain_world h.capacity h.row_capacity h.nodes.shown h.rows.items) c.args.s.0 is_pending (record { rec = (node c).0; state = Unforced c.in-Unforced.given_up }) (here c) c.requires.pending
+
+paid : (c : In-Unforced) → is_funded (plain_world c.args.self.now.capacity c.args.self.now.row_capacity c.args.self.now.nodes.shown c.args.self.now.rows.items) c.args.s.0 (node c).0 ≡ true
 paid c =
     let h = c.args.self.now in
-    let w = plain_world h.capacity h.row_capacity h.nodes.items h.rows.items in
-    passed_read h.capacity h.row_capacity h.nodes.items h.rows.items c.args.s.0 (is_funded w c.args.s.0) c.requires.funded c.index.result.now c.index.ensures c.in-Some.node c.in-Some.is
+    let w = plain_world h.capacity h.row_capacity h.nodes.shown h.rows.items in
+    passed_at w c.args.s.0 (is_funded w c.args.s.0) (record { rec = (node c).0; state = Unforced c.in-Unforced.given_up }) (here c) c.requires.funded
 
 claims_after : (c : After-add) → reverse c.add.new.values.items ≡ fresh_claim c.args.s ∷ reverse c.args.self.now.claims.items
 claims_after c = ap reverse c.add.ensures.items ∙ reverse-append c.args.self.now.claims.items (fresh_claim c.args.s ∷ [])
 
-now_plain : (c : After-add) → IsPlain c.args.self.now.capacity c.args.self.now.row_capacity (slice_set c.args.self.now.nodes.items c.args.s.0 (Some (record { rec = c.in-Some.node.rec; state = Claimed c.in-Unforced.given_up }))) (reverse c.add.new.values.items) c.args.self.now.rows.items
+now_plain : (c : After-add) → IsPlain c.args.self.now.capacity c.args.self.now.row_capacity c.set_state.new.self.shown (reverse c.add.new.values.items) c.args.self.now.rows.items
 now_plain c =
     let h = c.args.self.now in
     let i = (goal.at.invariant_of-self-clause-plain c).In-Unforced in
-    rw (claims_after c) (won_plain h.capacity h.row_capacity h.nodes.items (reverse h.claims.items) h.rows.items h.plain h.open_rows.items h.refused h.last c.args.s c.in-Some.node.rec c.in-Unforced.given_up (here i) (pending i) (paid i))
+    let set : c.set_state.new.self ≡ with_state h.nodes c.args.s.0 (node i).0 (Claimed c.in-Unforced.given_up) = c.set_state.ensures (record { rec = (node i).0; state = Unforced c.in-Unforced.given_up }) (node i).1 in
+    rw (claims_after c, set) (won_plain h.capacity h.row_capacity h.nodes.shown (reverse h.claims.items) h.rows.items h.plain h.open_rows.items h.refused h.last c.args.s (node i).0 c.in-Unforced.given_up (here i) (pending i) (paid i))
 
-pub unreachable-requires : goal.unreachable-requires
-unreachable-requires c = let h = c.args.self.now in none_read h.capacity h.row_capacity h.nodes.items h.rows.items c.args.s.0 is_pending c.requires.pending c.index.result.now c.index.ensures c.in_default.is
+pub state-requires : goal.state-requires
+state-requires c = let h = c.args.self.now in shown_read h.capacity h.row_capacity h.nodes.shown h.rows.items c.args.s.0 is_pending c.requires.pending
 
-pub index_mut-requires : goal.index_mut-requires
-index_mut-requires c = let h = c.args.self.now in omega (arith, within_read h.capacity h.row_capacity h.nodes.items h.rows.items c.args.s.0 is_pending c.requires.pending, h.nodes.ok.0)
+pub set_state-requires : goal.set_state-requires
+set_state-requires c = let h = c.args.self.now in shown_read h.capacity h.row_capacity h.nodes.shown h.rows.items c.args.s.0 is_pending c.requires.pending
 
 pub add-requires : goal.add-requires
 add-requires c =
     let h = c.args.self.now in
     let i = (goal.at.add-requires c).In-Unforced in
-    let l = room_left h.capacity h.row_capacity h.nodes.items (reverse h.claims.items) h.rows.items h.plain h.open_rows.items h.refused h.last c.args.s c.in-Some.node.rec c.in-Unforced.given_up (here i) (pending i) (paid i) in
-    let l' : length h.claims.items < length h.nodes.items = rw length-reverse at l in
+    let l = room_left h.capacity h.row_capacity h.nodes.shown (reverse h.claims.items) h.rows.items h.plain h.open_rows.items h.refused h.last c.args.s (node i).0 c.in-Unforced.given_up (here i) (pending i) (paid i) in
+    let l' : length h.claims.items < length h.nodes.shown = rw length-reverse at l in
     omega (arith, l', h.plain.fits, h.claim_room, h.claims.ok.0)
 
 pub invariant_of-self-clause-node_room : goal.invariant_of-self-clause-node_room
-invariant_of-self-clause-node_room c = c.args.self.now.node_room
+invariant_of-self-clause-node_room c =
+    let h = c.args.self.now in
+    let i = (goal.at.invariant_of-self-clause-node_room c).In-Unforced in
+    let set : c.set_state.new.self ≡ with_state h.nodes c.args.s.0 (node i).0 (Claimed c.in-Unforced.given_up) = c.set_state.ensures (record { rec = (node i).0; state = Unforced c.in-Unforced.given_up }) (node i).1 in
+    rw set h.node_room
 
 pub invariant_of-self-clause-claim_room : goal.invariant_of-self-clause-claim_room
 invariant_of-self-clause-claim_room c = omega (arith, c.add.ensures.room, c.args.self.now.claim_room)
@@ -67,24 +79,24 @@ pub returns-in-Unforced : goal.returns-in-Unforced
 returns-in-Unforced c =
     let h = c.args.self.now in
     let i = (goal.at.returns-in-Unforced c).In-Unforced in
-    rw (claims_after (goal.at.returns-in-Unforced c).After-add) (won_view h.capacity h.row_capacity h.nodes.items (reverse h.claims.items) h.rows.items h.plain h.open_rows.items h.refused h.last c.args.s c.in-Some.node.rec c.in-Unforced.given_up (here i) (pending i) (paid i))
+    let set : c.set_state.new.self ≡ with_state h.nodes c.args.s.0 (node i).0 (Claimed c.in-Unforced.given_up) = c.set_state.ensures (record { rec = (node i).0; state = Unforced c.in-Unforced.given_up }) (node i).1 in
+    rw (claims_after (goal.at.returns-in-Unforced c).After-add, set) (won_view h.capacity h.row_capacity h.nodes.shown (reverse h.claims.items) h.rows.items h.plain h.open_rows.items h.refused h.last c.args.s (node i).0 c.in-Unforced.given_up (here i) (pending i) (paid i))
 
 pub returns-in-Claimed : goal.returns-in-Claimed
 returns-in-Claimed c =
     let h = c.args.self.now in
+    let n = state_node (at_place h.nodes.shown c.args.s.0) (Claimed c.in-Claimed.given_up) (c.state.ensures ∙ ap {B = Option SuspState} (λ t. Some t) c.in-Claimed.is) in
     record {
       quiet = Quiet_refl _;
-      claimed = ap is_claimed_node (node_is h.capacity h.row_capacity h.nodes.items h.rows.items c.args.s.0 is_pending c.requires.pending c.index.result.now c.index.ensures c.in-Some.node (Claimed c.in-Claimed.given_up) c.in-Some.is c.in-Claimed.is);
+      claimed = ap is_claimed_node (there h.capacity h.row_capacity h.nodes.shown h.rows.items c.args.s.0 is_pending c.requires.pending ∙ n.1);
     }
 
 pub returns-in-Done : goal.returns-in-Done
 returns-in-Done c =
     let h = c.args.self.now in
+    let n = state_node (at_place h.nodes.shown c.args.s.0) (Done c.in-Done.place c.in-Done.steps c.in-Done.given_up) (c.state.ensures ∙ ap {B = Option SuspState} (λ t. Some t) c.in-Done.is) in
     record {
       quiet = Quiet_refl _;
       steps = c.in-Done.steps;
-      done = ap (option_and_then (λ (n : Node). kept n.state)) (node_is h.capacity h.row_capacity h.nodes.items h.rows.items c.args.s.0 is_pending c.requires.pending c.index.result.now c.index.ensures c.in-Some.node (Done c.in-Done.place c.in-Done.steps c.in-Done.given_up) c.in-Some.is c.in-Done.is);
+      done = ap (option_and_then (λ (n : Node). kept n.state)) (there h.capacity h.row_capacity h.nodes.shown h.rows.items c.args.s.0 is_pending c.requires.pending ∙ n.1);
     }
-
-pub index-requires : goal.index-requires
-index-requires c = let h = c.args.self.now in omega (arith, within_read h.capacity h.row_capacity h.nodes.items h.rows.items c.args.s.0 is_pending c.requires.pending, h.nodes.ok.0)

@@ -1,37 +1,42 @@
-use Rattle.std.proofs.Common.{arith, ◌≡◌, Some, reverse, slice_set}
+use Rattle.std.proofs.Common.{arith, ◌≡◌, Option, Some, ap, ◌∙◌, reverse}
+use Rattle.lazy_rec.specs.declared.records.Rec.{Rec}
+use Rattle.lazy_rec.specs.declared.states.SuspState.{SuspState}
 use Rattle.lazy_rec.specs.declared.states.SuspState.TheVariants.{Claimed, Done}
 use Rattle.heap_store.specs.World.{node_at}
 use Rattle.heap_store.specs.Plain.{IsPlain, plain_world}
-use Rattle.heap_store.proofs.PlainReads.{held_none, claimed_is, held_claimed, held_is, within_held}
+use Rattle.heap_store.specs.Slots.{at_place}
+use Rattle.heap_store.proofs.PlainReads.{with_state, claimed_is, held_claimed, held_is, held_shown}
 use Rattle.heap_store.proofs.PlainWorlds.{plain_lawful}
 use Rattle.heap_store.proofs.PlainSteps.{completed_plain, completed_view}
 use Rattle.heap_store.proofs.plain.PlainHeapClaims.complete.Goals as goal
 use Rattle.heap_store.proofs.plain.PlainHeapClaims.complete.Goals.{In-Claimed, After-release}
 
-here : (c : In-Claimed) → node_at (plain_world c.args.self.now.capacity c.args.self.now.row_capacity c.args.self.now.nodes.items c.args.self.now.rows.items) c.args.s.0 ≡ Some (record { rec = c.in-Some.node.rec; state = Claimed c.in-Claimed.given_up })
-here c = let h = c.args.self.now in held_is h.capacity h.row_capacity h.nodes.items (reverse h.claims.items) h.rows.items h.plain c.args.s.0 c.requires.held c.index.result.now c.index.ensures c.in-Some.node c.in-Claimed.given_up c.in-Some.is c.in-Claimed.is
+-- the node whose state was read
+node : (c : In-Claimed) → (r : Rec) × (at_place c.args.self.now.nodes.shown c.args.s.0 ≡ Some (record { rec = r; state = Claimed c.in-Claimed.given_up })) × (node_at (plain_world c.args.self.now.capacity c.args.self.now.row_capacity c.args.self.now.nodes.shown c.args.self.now.rows.items) c.args.s.0 ≡ Some (record { rec = r; state = Claimed c.in-Claimed.given_up }))
+node c = let h = c.args.self.now in held_is h.capacity h.row_capacity h.nodes.shown (reverse h.claims.items) h.rows.items h.plain c.args.s.0 c.requires.held (Claimed c.in-Claimed.given_up) (c.state.ensures ∙ ap {B = Option SuspState} (λ t. Some t) c.in-Claimed.is)
 
-now_plain : (c : After-release) → IsPlain c.args.self.now.capacity c.args.self.now.row_capacity (slice_set c.args.self.now.nodes.items c.args.s.0 (Some (record { rec = c.in-Some.node.rec; state = Done c.args.place c.args.steps c.in-Claimed.given_up }))) (reverse c.release.new.claims.items) c.args.self.now.rows.items
+now_plain : (c : After-release) → IsPlain c.args.self.now.capacity c.args.self.now.row_capacity c.set_state.new.self.shown (reverse c.release.new.claims.items) c.args.self.now.rows.items
 now_plain c =
     let h = c.args.self.now in
-    rw (c.release.ensures.items) (completed_plain h.capacity h.row_capacity h.nodes.items (reverse h.claims.items) h.rows.items h.plain h.open_rows.items h.refused h.last c.args.s.0 c.in-Some.node.rec c.in-Claimed.given_up (here (goal.at.invariant_of-self-clause-plain c).In-Claimed) c.args.place c.args.steps c.requires.value c.requires.small)
+    let i = (goal.at.invariant_of-self-clause-plain c).In-Claimed in
+    let set : c.set_state.new.self ≡ with_state h.nodes c.args.s.0 (node i).0 (Done c.args.place c.args.steps c.in-Claimed.given_up) = c.set_state.ensures (record { rec = (node i).0; state = Claimed c.in-Claimed.given_up }) (node i).1 in
+    rw (c.release.ensures.items, set) (completed_plain h.capacity h.row_capacity h.nodes.shown (reverse h.claims.items) h.rows.items h.plain h.open_rows.items h.refused h.last c.args.s.0 (node i).0 c.in-Claimed.given_up (node i).2 c.args.place c.args.steps c.requires.value c.requires.small)
 
-pub index-requires : goal.index-requires
-index-requires c = let h = c.args.self.now in omega (arith, within_held h.capacity h.row_capacity h.nodes.items (reverse h.claims.items) h.rows.items h.plain c.args.s.0 c.requires.held, h.nodes.ok.0)
+pub state-requires : goal.state-requires
+state-requires c = let h = c.args.self.now in held_shown h.capacity h.row_capacity h.nodes.shown (reverse h.claims.items) h.rows.items h.plain c.args.s.0 c.requires.held
 
 pub unreachable-requires : goal.unreachable-requires
-unreachable-requires c = let h = c.args.self.now in held_none h.capacity h.row_capacity h.nodes.items (reverse h.claims.items) h.rows.items h.plain c.args.s.0 c.requires.held c.index.result.now c.index.ensures c.in_default.is
+unreachable-requires c = let h = c.args.self.now in claimed_is c.state.result (held_claimed h.capacity h.row_capacity h.nodes.shown (reverse h.claims.items) h.rows.items h.plain c.args.s.0 c.requires.held c.state.result c.state.ensures) c.in_default.not-Claimed
 
-pub unreachable-requires-in_default-state : goal.unreachable-requires-in_default-state
-unreachable-requires-in_default-state c =
-    let h = c.args.self.now in
-    claimed_is c.in-Some.node.state (held_claimed h.capacity h.row_capacity h.nodes.items (reverse h.claims.items) h.rows.items h.plain c.args.s.0 c.requires.held c.index.result.now c.index.ensures c.in-Some.node c.in-Some.is) c.in_default-state.not-Claimed
-
-pub index_mut-requires : goal.index_mut-requires
-index_mut-requires c = let h = c.args.self.now in omega (arith, within_held h.capacity h.row_capacity h.nodes.items (reverse h.claims.items) h.rows.items h.plain c.args.s.0 c.requires.held, h.nodes.ok.0)
+pub set_state-requires : goal.set_state-requires
+set_state-requires c = let h = c.args.self.now in held_shown h.capacity h.row_capacity h.nodes.shown (reverse h.claims.items) h.rows.items h.plain c.args.s.0 c.requires.held
 
 pub invariant_of-self-clause-node_room : goal.invariant_of-self-clause-node_room
-invariant_of-self-clause-node_room c = c.args.self.now.node_room
+invariant_of-self-clause-node_room c =
+    let h = c.args.self.now in
+    let i = (goal.at.invariant_of-self-clause-node_room c).In-Claimed in
+    let set : c.set_state.new.self ≡ with_state h.nodes c.args.s.0 (node i).0 (Done c.args.place c.args.steps c.in-Claimed.given_up) = c.set_state.ensures (record { rec = (node i).0; state = Claimed c.in-Claimed.given_up }) (node i).1 in
+    rw set h.node_room
 
 pub invariant_of-self-clause-claim_room : goal.invariant_of-self-clause-claim_room
 invariant_of-self-clause-claim_room c = omega (arith, c.release.ensures.room, c.args.self.now.claim_room)
@@ -45,4 +50,6 @@ invariant_of-self-clause-law c = let h = c.args.self.now in plain_lawful h.capac
 pub returns : goal.returns
 returns c =
     let h = c.args.self.now in
-    rw (c.release.ensures.items) (completed_view h.capacity h.row_capacity h.nodes.items (reverse h.claims.items) h.rows.items h.plain h.open_rows.items h.refused h.last c.args.s.0 c.in-Some.node.rec c.in-Claimed.given_up (here (goal.at.returns c).In-Claimed) c.args.place c.args.steps)
+    let i = (goal.at.returns c).In-Claimed in
+    let set : c.set_state.new.self ≡ with_state h.nodes c.args.s.0 (node i).0 (Done c.args.place c.args.steps c.in-Claimed.given_up) = c.set_state.ensures (record { rec = (node i).0; state = Claimed c.in-Claimed.given_up }) (node i).1 in
+    rw (c.release.ensures.items, set) (completed_view h.capacity h.row_capacity h.nodes.shown (reverse h.claims.items) h.rows.items h.plain h.open_rows.items h.refused h.last c.args.s.0 (node i).0 c.in-Claimed.given_up (node i).2 c.args.place c.args.steps)

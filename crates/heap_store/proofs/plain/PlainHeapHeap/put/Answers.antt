@@ -1,28 +1,28 @@
-use Rattle.std.proofs.Common.{arith, ◌≡◌, ◌<◌, true, length, reverse, slice_set}
+use Rattle.std.proofs.Common.{arith, ◌≡◌, ◌<◌, true, length, reverse, refl}
 use Rattle.heap_store.specs.Hand.{contains}
-use Rattle.heap_store.specs.Plain.{IsPlain, free_places}
+use Rattle.heap_store.specs.Plain.{IsPlain, free_places, fresh_node}
 use Rattle.heap_store.proofs.PlainWorlds.{free_unpublished, plain_lawful}
 use Rattle.heap_store.proofs.PlainSteps.{put_plain_at, put_view_at}
 use Rattle.heap_store.proofs.plain.PlainHeapHeap.put.Goals as goal
 use Rattle.heap_store.proofs.plain.PlainHeapHeap.put.Goals.{After-step-place, After-mark_newest}
 
-held : (c : After-step-place) → contains (free_places 0 c.args.self.now.nodes.items) c.args.run.now.next ≡ true
+held : (c : After-step-place) → contains (free_places 0 c.args.self.now.nodes.shown) c.args.run.now.next ≡ true
 held c = c.requires.held.each c.args.run.now.next (omega arith) c.requires.left
 
-within : (c : After-step-place) → c.args.run.now.next < length c.args.self.now.nodes.items
-within c = let h = c.args.self.now in (free_unpublished h.capacity h.row_capacity h.nodes.items (reverse h.claims.items) h.rows.items h.plain c.args.run.now.next (held c)).0
+within : (c : After-step-place) → c.args.run.now.next < length c.args.self.now.nodes.shown
+within c = let h = c.args.self.now in (free_unpublished h.capacity h.row_capacity h.nodes.shown (reverse h.claims.items) h.rows.items h.plain c.args.run.now.next (held c)).0
 
-now_plain : (c : After-mark_newest) → IsPlain c.args.self.now.capacity c.args.self.now.row_capacity (slice_set c.args.self.now.nodes.items c.step-place.result.0 c.fresh.result) (reverse c.mark_newest.new.claims.items) c.args.self.now.rows.items
+now_plain : (c : After-mark_newest) → IsPlain c.args.self.now.capacity c.args.self.now.row_capacity c.publish.new.self.shown (reverse c.mark_newest.new.claims.items) c.args.self.now.rows.items
 now_plain c =
     let h = c.args.self.now in
-    put_plain_at h.capacity h.row_capacity h.nodes.items (reverse h.claims.items) h.rows.items h.plain h.open_rows.items h.refused h.last c.args.run.now.next c.step-place.result.0 c.args.rec c.fresh.result c.is_later.result (reverse c.mark_newest.new.claims.items)
-    c.step-place.ensures.place c.fresh.ensures c.is_later.ensures c.mark_newest.ensures.items (held (goal.at.invariant_of-self-clause-plain c).After-step-place) c.requires.fits
+    rw c.publish.ensures (put_plain_at h.capacity h.row_capacity h.nodes.shown (reverse h.claims.items) h.rows.items h.plain h.open_rows.items h.refused h.last c.args.run.now.next c.step-place.result.0 c.args.rec (fresh_node c.args.rec) c.is_later.result (reverse c.mark_newest.new.claims.items)
+    c.step-place.ensures.place refl c.is_later.ensures c.mark_newest.ensures.items (held (goal.at.invariant_of-self-clause-plain c).After-step-place) c.requires.fits)
 
-pub index_mut-requires : goal.index_mut-requires
-index_mut-requires c = omega (arith, within (goal.at.index_mut-requires c).After-step-place, c.args.self.now.nodes.ok.0, c.step-place.ensures.place)
+pub publish-requires : goal.publish-requires
+publish-requires c = omega (arith, within (goal.at.publish-requires c).After-step-place, c.step-place.ensures.place)
 
 pub invariant_of-self-clause-node_room : goal.invariant_of-self-clause-node_room
-invariant_of-self-clause-node_room c = c.args.self.now.node_room
+invariant_of-self-clause-node_room c = rw c.publish.ensures c.args.self.now.node_room
 
 pub invariant_of-self-clause-claim_room : goal.invariant_of-self-clause-claim_room
 invariant_of-self-clause-claim_room c = omega (arith, c.mark_newest.ensures.room, c.args.self.now.claim_room)
@@ -39,5 +39,5 @@ invariant_of-self-clause-law c = let h = c.args.self.now in plain_lawful h.capac
 pub returns-clause-put : goal.returns-clause-put
 returns-clause-put c =
     let h = c.args.self.now in
-    put_view_at h.capacity h.row_capacity h.nodes.items (reverse h.claims.items) h.rows.items h.plain h.open_rows.items h.refused h.last c.args.run.now.next c.step-place.result.0 c.args.rec c.fresh.result c.is_later.result (reverse c.mark_newest.new.claims.items)
-    c.step-place.ensures.place c.fresh.ensures c.is_later.ensures c.mark_newest.ensures.items (held (goal.at.returns-clause-put c).After-step-place) c.requires.fits
+    rw c.publish.ensures (put_view_at h.capacity h.row_capacity h.nodes.shown (reverse h.claims.items) h.rows.items h.plain h.open_rows.items h.refused h.last c.args.run.now.next c.step-place.result.0 c.args.rec (fresh_node c.args.rec) c.is_later.result (reverse c.mark_newest.new.claims.items)
+    c.step-place.ensures.place refl c.is_later.ensures c.mark_newest.ensures.items (held (goal.at.returns-clause-put c).After-step-place) c.requires.fits)

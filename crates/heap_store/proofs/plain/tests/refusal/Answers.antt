@@ -1,4 +1,4 @@
-use Rattle.heap_store.proofs.PlainTests.{reserved_held}
+use Rattle.heap_store.proofs.Steps.{reserved_held}
 use Rattle.heap_store.proofs.plain.tests.refusal.Goals as goal
 
 pub fill-requires : goal.fill-requires

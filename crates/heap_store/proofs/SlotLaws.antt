@@ -1,0 +1,82 @@
+-- Slots of drawn places: what is read of one, and what a write shows.
+use Rattle.std.proofs.Common.{◌≡◌, ℕ, zero, suc, ◌+◌, ◌-◌, ◌<◌, ◌≤◌, true, List, [], ◌∷◌, ◌++◌, length, map, replicate, Option, Some, None, refl, sym, ap, ◌∙◌, arith, ⊎_elim, is_some}
+use Rattle.std.specs.Prelude.{option_map, slice_set, slice_index_or}
+use Rattle.std.proofs.lemmas.Bool.{cases_lt, true≢false}
+use Rattle.std.proofs.lemmas.List.{length-map, map-append, map-set, get_or-map, length-append, length-replicate, replicate-append-replicate, append_assoc}
+use Rattle.lazy_rec.specs.declared.states.SuspState.{SuspState}
+use Rattle.heap_store.specs.declared.nodes.Node.{Node}
+use Rattle.heap_store.specs.declared.slots.Slot.{Slot}
+use Rattle.heap_store.specs.declared.slots.TheConstants.{FREE}
+use Rattle.heap_store.specs.Plain.{filled_up}
+use Rattle.heap_store.specs.Slots.{state_in, node_in, shown_in, at_place}
+use Rattle.heap_store.proofs.PlainLists.{filled-within, filled-beyond, filled-set, filled-more, length-filled}
+
+pub length-shown : (slots : List Slot) (drawn : ℕ) → length slots ≤ drawn → length (shown_in slots drawn) ≡ drawn
+length-shown slots drawn l = length-filled None drawn (map node_in slots) (rw length-map l)
+
+-- the slot that an index reads
+pub shown_at : (slots : List Slot) (drawn p : ℕ) (s : Slot) → p < length slots → s ≡ slice_index_or slots p s → at_place (shown_in slots drawn) p ≡ node_in s
+shown_at slots drawn p s l is = filled-within None None drawn (map node_in slots) p (rw length-map l) ∙ (get_or-map node_in slots p s None l ∙ ap node_in (sym is))
+
+pub shown_past : (slots : List Slot) (drawn p : ℕ) → length slots ≤ p → at_place (shown_in slots drawn) p ≡ None
+shown_past slots drawn p l = filled-beyond None drawn (map node_in slots) p (rw length-map l)
+
+-- what shows something has a slot
+pub there : (slots : List Slot) (drawn p : ℕ) → is_some (at_place (shown_in slots drawn) p) ≡ true → p < length slots
+there slots drawn p h = ⊎_elim (λ l. l) (λ l. absurd (true≢false (sym h ∙ ap is_some (shown_past slots drawn p l)))) (cases_lt p (length slots))
+
+-- more drawn places
+pub drawn_more : (slots : List Slot) (drawn k : ℕ) → length slots ≤ drawn → shown_in slots (drawn + k) ≡ shown_in slots drawn ++ replicate k None
+drawn_more slots drawn k l =
+    let xs = map node_in slots in
+    let many : length xs ≡ length slots = length-map slots node_in in
+    let more : drawn + k - length xs ≡ (drawn - length xs) + k = omega (arith, many) in
+    ap (λ n. xs ++ replicate n None) more ∙ (ap (λ zs. xs ++ zs) (sym (replicate-append-replicate (drawn - length xs) k None)) ∙ sym (append_assoc xs (replicate (drawn - length xs) None) (replicate k None)))
+
+map-free : (k : ℕ) → map node_in (replicate k FREE) ≡ replicate k None
+map-free zero = refl
+map-free (suc k) = ap (λ xs. None ∷ xs) (map-free k)
+
+-- free slots show what was shown
+pub filled_free : (slots : List Slot) (drawn k : ℕ) → length slots + k ≤ drawn → shown_in (slots ++ replicate k FREE) drawn ≡ shown_in slots drawn
+filled_free slots drawn k l =
+    ap (filled_up None drawn) (map-append node_in slots (replicate k FREE) ∙ ap (λ xs. map node_in slots ++ xs) (map-free k))
+    ∙ filled-more None drawn k (map node_in slots) (rw length-map l)
+
+-- a slot is written
+pub slot_set : (slots : List Slot) (drawn p : ℕ) (s : Slot) → p < length slots → shown_in (slice_set slots p s) drawn ≡ slice_set (shown_in slots drawn) p (node_in s)
+slot_set slots drawn p s l = ap (filled_up None drawn) (map-set node_in slots p s) ∙ sym (filled-set None drawn (map node_in slots) p (node_in s) (rw length-map l))
+
+-- the next slot is pushed
+set_last : (xs : List Slot) (s t : Slot) → slice_set (xs ++ s ∷ []) (length xs) t ≡ xs ++ t ∷ []
+set_last [] s t = refl
+set_last (x ∷ xs) s t = ap (λ ys. x ∷ ys) (set_last xs s t)
+
+pub slot_pushed : (slots : List Slot) (drawn : ℕ) (s : Slot) → length slots < drawn → shown_in (slots ++ s ∷ []) drawn ≡ slice_set (shown_in slots drawn) (length slots) (node_in s)
+slot_pushed slots drawn s l =
+    let longer = slots ++ FREE ∷ [] in
+    let many : length longer ≡ length slots + 1 = length-append slots (FREE ∷ []) in
+    ap (λ xs. shown_in xs drawn) (sym (set_last slots FREE s))
+    ∙ (slot_set longer drawn (length slots) s (omega (arith, many)) ∙ ap (λ xs. slice_set xs (length slots) (node_in s)) (filled_free slots drawn 1 (omega arith)))
+
+-- a published place gets another state
+some_same : (n : Node) (s : Slot) → node_in s ≡ Some n → n.rec ≡ s.rec
+some_same n s h = go (state_in s.state) h
+  where
+    go : (t : Option SuspState) → option_map (λ (x : SuspState). record { rec = s.rec; state = x }) t ≡ Some n → n.rec ≡ s.rec
+    go None h = cc
+    go (Some x) h = let same : record { rec = s.rec; state = x } ≡ n = cc in sym (ap (λ (m : Node). m.rec) same)
+
+pub state_set : (slots : List Slot) (drawn p : ℕ) (s t : Slot) (x : SuspState) (n : Node) → p < length slots → s ≡ slice_index_or slots p s → at_place (shown_in slots drawn) p ≡ Some n → t.rec ≡ s.rec → state_in t.state ≡ Some x → shown_in (slice_set slots p t) drawn ≡ slice_set (shown_in slots drawn) p (Some (record n { state = x }))
+state_set slots drawn p s t x n l is here rec state =
+    let old : n.rec ≡ s.rec = some_same n s (sym (shown_at slots drawn p s l is) ∙ here) in
+    let new : node_in t ≡ Some (record n { state = x }) = ap (option_map (λ (y : SuspState). record { rec = t.rec; state = y })) state ∙ ap (λ r. Some (record { rec = r; state = x })) (rec ∙ sym old) in
+    slot_set slots drawn p t l ∙ ap (λ o. slice_set (shown_in slots drawn) p o) new
+
+-- a slot is written behind free ones
+pub slot_put : (slots : List Slot) (drawn p : ℕ) (s : Slot) → length slots ≤ drawn → p < drawn → shown_in (slice_set (slots ++ replicate (p + 1 - length slots) FREE) p s) drawn ≡ slice_set (shown_in slots drawn) p (node_in s)
+slot_put slots drawn p s l h =
+    let k = p + 1 - length slots in
+    let longer = slots ++ replicate k FREE in
+    let many : length longer ≡ length slots + k = length-append slots (replicate k FREE) ∙ ap (λ n. length slots + n) (length-replicate k FREE) in
+    slot_set longer drawn p s (omega (arith, many)) ∙ ap (λ xs. slice_set xs p (node_in s)) (filled_free slots drawn k (omega arith))

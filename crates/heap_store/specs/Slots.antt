@@ -1,0 +1,32 @@
+-- What the slots of drawn places show.
+use Rattle.std.specs.Prelude.{ℕ, List, Option, Some, None, map, option_map, slice_index_or}
+use Rattle.lazy_rec.specs.declared.states.SuspState.{SuspState}
+use Rattle.lazy_rec.specs.declared.states.SuspState.TheVariants as states
+use Rattle.heap_store.specs.declared.nodes.Node.{Node}
+use Rattle.heap_store.specs.declared.slots.Slot.{Slot}
+use Rattle.heap_store.specs.declared.slots.SlotState.{SlotState}
+use Rattle.heap_store.specs.declared.slots.SlotState.TheVariants as kept
+use Rattle.heap_store.specs.Plain.{filled_up}
+
+-- what the drawn places show, in order, and how many there is room for
+pub record PlacesView : Type 0 where
+  pub shown : List (Option Node)
+  pub room : ℕ
+
+-- the state that a slot keeps
+abbrev pub state_in : SlotState → Option SuspState
+state_in kept.Free = None
+state_in (kept.Unforced given_up) = Some (states.Unforced given_up)
+state_in (kept.Claimed given_up) = Some (states.Claimed given_up)
+state_in (kept.Done given_up place steps) = Some (states.Done place steps given_up)
+
+-- what a slot shows
+abbrev pub node_in : Slot → Option Node
+node_in slot = option_map (λ (s : SuspState). record { rec = slot.rec; state = s }) (state_in slot.state)
+
+-- what so many drawn places show: those behind the last slot show nothing
+abbrev pub shown_in : List Slot → ℕ → List (Option Node)
+shown_in slots drawn = filled_up None drawn (map node_in slots)
+
+abbrev pub at_place : List (Option Node) → ℕ → Option Node
+at_place shown p = slice_index_or shown p None

@@ -1,0 +1,220 @@
+//! The drawn places of a store of one thread.
+ghost use Rattle.std.specs.Prelude.{◌≡◌, ◌+◌, ◌-◌, ◌<◌, ◌≤◌, ◌++◌, [], true, replicate, length, map, is_some, Some, None, IfOk, option_map, slice_set, slice_index_or, vec_len, vec_capacity};
+ghost use Rattle.heap_store.specs.declared.nodes.Node.{Node};
+ghost use Rattle.heap_store.specs.Plain.{fresh_node};
+ghost use Rattle.heap_store.specs.Slots.{state_in, node_in, at_place};
+
+use crate::nodes::Node;
+use lazy_rec::{Rec, Ref, SuspState};
+use std::alloc::{AllocError, Global};
+use std::marker::Model;
+
+/// The state of a place, or that nothing is published there. Short fields come first, so that a slot has 56 bytes.
+#[derive(Clone, Copy)]
+enum SlotState {
+    Free,
+    Unforced {
+        given_up: u16,
+    },
+    Claimed {
+        given_up: u16,
+    },
+    Done {
+        given_up: u16,
+        place: Ref,
+        steps: u32,
+    },
+}
+
+/// What is kept of a place: its record and its state. The record of a free place means nothing.
+#[derive(Clone, Copy)]
+struct Slot {
+    rec: Rec,
+    state: SlotState,
+}
+
+/// The slot of a place that shows nothing.
+const FREE: Slot = Slot {
+    rec: Rec::Nil,
+    state: SlotState::Free,
+};
+
+/// The state that a slot shows, if something is published there.
+#[inline(always)]
+fn state_in(state: SlotState) -> Option<SuspState>
+    ensures { result ≡ state_in state }
+{
+    match state {
+        SlotState::Free => None,
+        SlotState::Unforced { given_up } => Some(SuspState::Unforced { given_up }),
+        SlotState::Claimed { given_up } => Some(SuspState::Claimed { given_up }),
+        SlotState::Done {
+            given_up,
+            place,
+            steps,
+        } => Some(SuspState::Done {
+            place,
+            steps,
+            given_up,
+        }),
+    }
+}
+
+/// The state as a slot keeps it.
+#[inline(always)]
+fn kept(state: SuspState) -> SlotState
+    ensures { state_in result ≡ Some state }
+{
+    match state {
+        SuspState::Unforced { given_up } => SlotState::Unforced { given_up },
+        SuspState::Claimed { given_up } => SlotState::Claimed { given_up },
+        SuspState::Done {
+            place,
+            steps,
+            given_up,
+        } => SlotState::Done {
+            given_up,
+            place,
+            steps,
+        },
+    }
+}
+
+/// The slot of a fresh place.
+#[inline(always)]
+fn fresh(rec: Rec) -> Slot
+    ensures { node_in result ≡ fresh_node rec }
+{
+    Slot {
+        rec,
+        state: SlotState::Unforced { given_up: 0 },
+    }
+}
+
+/// Puts free slots behind the others, so that there are at least so many.
+#[cold]
+#[inline(never)]
+fn fill_to(slots: &mut Vec<Slot>, len: usize)
+    requires { len ≤ vec_capacity slots.old }
+    ensures items { slots.new.items ≡ slots.old.items ++ replicate (len - length slots.old.items) FREE }
+    ensures room { vec_capacity slots.new ≡ vec_capacity slots.old }
+{
+    for _ in slots.len()..len {
+        slots.push_reserved(FREE);
+    }
+}
+
+/// The drawn places, up to so many as there is room for. A slot is written when its place is published, and before it only where a
+/// later place is published first: drawing places costs nothing.
+#[derive(Drop)]
+pub struct DrawnPlaces {
+    slots: Vec<Slot>,
+    drawn: u32,
+    room: u32,
+}
+
+impl Model for DrawnPlaces {
+    ghost use Rattle.std.specs.Prelude.{◌≤◌, length, vec_capacity};
+    ghost use Rattle.heap_store.specs.Slots.{PlacesView, shown_in};
+
+    ghost Value = { PlacesView };
+
+    ghost view = { λ p. record { shown = shown_in p.slots.items p.drawn; room = p.room } };
+
+    ghost invariant = { λ p. (length p.slots.items ≤ p.drawn) × (p.drawn ≤ p.room) × (p.room ≤ vec_capacity p.slots) };
+}
+
+impl DrawnPlaces {
+    /// Room for so many places, of which none is drawn.
+    pub fn with_room(alloc: Global, room: u32) -> Result<DrawnPlaces, AllocError>
+        ensures { IfOk result (λ p. p ≡ record { shown = []; room = room }) }
+    {
+        let slots = Vec::with_capacity(alloc, room as usize)?;
+        Ok(DrawnPlaces {
+            slots,
+            drawn: 0,
+            room,
+        })
+    }
+
+    /// How many places are drawn.
+    #[inline(always)]
+    pub fn drawn(&self) -> u32
+        ensures drawn { result ≡ length self.now.shown }
+        ensures few { result ≤ self.now.room }
+    {
+        self.drawn
+    }
+
+    /// What a place shows.
+    #[inline(always)]
+    pub fn get(&self, place: Ref) -> Option<Node>
+        ensures { result ≡ at_place self.now.shown place.0 }
+    {
+        if place.0 as usize >= self.slots.len() {
+            return None;
+        }
+        let slot = self.slots[place.0 as usize];
+        match state_in(slot.state) {
+            Some(state) => Some(Node {
+                rec: slot.rec,
+                state,
+            }),
+            None => None,
+        }
+    }
+
+    /// The record at a published place.
+    #[inline(always)]
+    pub fn rec(&self, place: Ref) -> Rec
+        requires { is_some (at_place self.now.shown place.0) ≡ true }
+        ensures { option_map (λ (n : Node). n.rec) (at_place self.now.shown place.0) ≡ Some result }
+    {
+        self.slots[place.0 as usize].rec
+    }
+
+    /// The state of a published place.
+    #[inline(always)]
+    pub fn state(&self, place: Ref) -> SuspState
+        requires { is_some (at_place self.now.shown place.0) ≡ true }
+        ensures { option_map (λ (n : Node). n.state) (at_place self.now.shown place.0) ≡ Some result }
+    {
+        match state_in(self.slots[place.0 as usize].state) {
+            Some(state) => state,
+            None => unreachable!(),
+        }
+    }
+
+    /// Draws so many places more.
+    #[inline(always)]
+    pub fn draw(&mut self, count: u32)
+        requires { length self.old.shown + count ≤ self.old.room }
+        ensures { self.new ≡ record self.old { shown = self.old.shown ++ replicate count None } }
+    {
+        self.drawn += count;
+    }
+
+    /// Publishes a record at a drawn place.
+    #[inline(always)]
+    pub fn publish(&mut self, place: Ref, rec: Rec)
+        requires { place.0 < length self.old.shown }
+        ensures { self.new ≡ record self.old { shown = slice_set self.old.shown place.0 (fresh_node rec) } }
+    {
+        let at = place.0 as usize;
+        if at == self.slots.len() {
+            self.slots.push_reserved(fresh(rec));
+        } else {
+            fill_to(&mut self.slots, at + 1);
+            self.slots[at] = fresh(rec);
+        }
+    }
+
+    /// Gives a published place another state.
+    #[inline(always)]
+    pub fn set_state(&mut self, place: Ref, state: SuspState)
+        requires { is_some (at_place self.old.shown place.0) ≡ true }
+        ensures { (n : Node) → at_place self.old.shown place.0 ≡ Some n → self.new ≡ record self.old { shown = slice_set self.old.shown place.0 (Some (record n { state = state })) } }
+    {
+        self.slots[place.0 as usize].state = kept(state);
+    }
+}
