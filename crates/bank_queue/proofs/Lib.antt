@@ -3,7 +3,6 @@ pub mod RotationLaws
 pub mod PaidFronts
 pub mod RotationWork
 pub mod Reversals
-pub mod QueueEntries
 pub mod RotatedFronts
 pub mod TopsShown
 pub mod Tops

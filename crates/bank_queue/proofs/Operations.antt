@@ -22,17 +22,18 @@ use Rattle.heap_store.proofs.LawfulLaws.{lawful_names}
 use Rattle.heap_store.proofs.MeaningLaws.{cells_kept}
 use Rattle.heap_store.proofs.Steps.{Quiet_refl}
 use Rattle.heap_store.proofs.CellLaws.{list_cells}
+use Rattle.heap_store.proofs.EventEnds.{built_same}
 use Rattle.heap_store.proofs.PutLaws.{fits_list_cons}
 use Rattle.bank_queue.specs.declared.queue.Top.{Top}
 use Rattle.bank_queue.specs.Queue.{top_record, places_for, looks_at_front, IsReadyEvent, IsNearQueue}
 use Rattle.bank_queue.proofs.Fronts.{front_cell}
 use Rattle.bank_queue.proofs.PaidFronts.{rest_paid}
-use Rattle.bank_queue.proofs.QueueEntries.{queued}
+use Rattle.heap_store.proofs.QueueEntries.{queued}
 use Rattle.bank_queue.proofs.RotatedFronts.{rotated_of, rotated_after}
 use Rattle.bank_queue.proofs.Tops.{old_top, kept_queue}
 use Rattle.bank_queue.proofs.TopsPaid.{front_paid}
 use Rattle.bank_queue.proofs.QueueJobs.{BuildTop, top_there, build_root, build_top, full_places}
-use Rattle.bank_queue.proofs.QueueEnds.{built_same, full_end, size_end, head_end, empty_end}
+use Rattle.bank_queue.proofs.QueueEnds.{full_end, size_end, head_end, empty_end}
 
 -- ---- operations that make nothing
 

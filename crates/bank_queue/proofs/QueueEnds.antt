@@ -1,7 +1,7 @@
 -- The ends of the operations: what each makes of the items of its queue.
-use Rattle.std.proofs.Common.{◌≡◌, ℕ, suc, ◌+◌, ◌-◌, ◌<◌, leb, refl, sym, ap, ◌∙◌, arith, subst, true, false, not, Some, List, [], ◌∷◌, ◌++◌, length}
+use Rattle.std.proofs.Common.{◌≡◌, ℕ, suc, ◌+◌, ◌-◌, ◌<◌, refl, sym, ap, ◌∙◌, arith, true, false, not, Some, List, [], ◌∷◌, ◌++◌, length}
 use Rattle.std.proofs.lemmas.List.{length-append, nil_from_length}
-use Rattle.std.proofs.lemmas.Bool.{true≢false, eq-eqb, le-leb, lt-leb, cond-true, cond-false}
+use Rattle.std.proofs.lemmas.Bool.{true≢false, eq-eqb}
 use Rattle.lazy_rec.specs.declared.places.Ref.{Ref}
 use Rattle.lazy_rec.specs.declared.records.Rec.{Rec}
 use Rattle.lazy_rec.specs.declared.records.Rec.TheVariants.{Cons, BankTop}
@@ -22,25 +22,16 @@ use Rattle.heap_store.specs.Values.{items_in}
 use Rattle.heap_store.specs.Legal.{in_order}
 use Rattle.heap_store.specs.Lawful.{IsLawful, is_root}
 use Rattle.heap_store.specs.LookedAt.{has_looked}
-use Rattle.heap_store.specs.Span.{Span}
-use Rattle.heap_store.specs.View.{View, Quiet}
-use Rattle.heap_store.specs.Jobs.{IsEventBuilt, IsEnd, Filled, outcome}
+use Rattle.heap_store.specs.Jobs.{IsEnd, outcome}
 use Rattle.heap_store.proofs.GrowthLaws.{at_true}
-use Rattle.heap_store.proofs.Steps.{Filled-none, Filled-quiet}
+use Rattle.heap_store.proofs.EventEnds.{snoc_longer, snoc_full}
 use Rattle.bank_queue.specs.declared.queue.Top.{Top}
-use Rattle.bank_queue.specs.Queue.{top_record, looks_at_front, ends_at}
+use Rattle.heap_store.specs.OneStage.{ends_at}
+use Rattle.bank_queue.specs.Queue.{top_record, looks_at_front}
 use Rattle.bank_queue.proofs.Fronts.{front_cell}
-use Rattle.bank_queue.proofs.QueueEntries.{queued, queued-snoc}
+use Rattle.heap_store.proofs.QueueEntries.{queued, queued-snoc}
 use Rattle.bank_queue.proofs.Tops.{old_top, top_means}
 use Rattle.bank_queue.proofs.QueueJobs.{top_size}
-
--- ---- effects
-
-snoc_longer : (v ws : List ℕ) (x : ℕ) → length v < 2147483647 → effect ops.Snoc v ws x ≡ (v ++ x ∷ [], replies.Ok)
-snoc_longer v ws x h = cond-true (leb (length (v ++ x ∷ [])) 2147483647) (v ++ x ∷ [], replies.Ok) (v, replies.TooLong) (le-leb (length (v ++ x ∷ [])) 2147483647 (rw (length-append v (x ∷ [])) (omega (arith, h))))
-
-snoc_full : (v ws : List ℕ) (x : ℕ) → length v ≡ 2147483647 → effect ops.Snoc v ws x ≡ (v, replies.TooLong)
-snoc_full v ws x h = cond-false (leb (length (v ++ x ∷ [])) 2147483647) (v ++ x ∷ [], replies.Ok) (v, replies.TooLong) (lt-leb (length (v ++ x ∷ [])) 2147483647 (rw (length-append v (x ∷ [])) (omega (arith, h))))
 
 -- ---- ends
 
@@ -65,12 +56,6 @@ end_of {w} law job kind op same root size reply made there m eff len looked =
 
 pub same_root : (base : Ref) (size : ℕ) (reply : Reply) (result : After) → result ≡ End base size reply → ends_at result base.0 ≡ true
 same_root base size reply result e = rw e (eq-eqb base.0 base.0 refl)
-
--- an event that makes nothing
-pub built_same : {a b : View} {job : EventJob} {run : Span} → Quiet a b → run.next ≡ run.end → (size : ℕ) (reply : Reply) → IsEnd b.seen job job.base.root.0 size reply → (result : After) → result ≡ End job.base.root size reply → IsEventBuilt a b job run run result
-built_same {a} {b} {job} {run} q done size reply e result same =
-    let f = Filled-quiet (Filled-none a run.next) q in
-    rw same (record { filled = subst (λ n. Filled a b run.next n) done f; spent = done; made = e; credits = rw q.hand (omega arith) })
 
 -- ---- the ends of the operations
 

@@ -20,14 +20,14 @@ use Rattle.heap_store.specs.Lawful.{IsLawful, is_any_bank_rotation, is_root}
 use Rattle.heap_store.specs.Stages.{StageName, at_start, at_heap_paid, at_parts, at_root, name_of, has_stage, due_now, places_now}
 use Rattle.heap_store.specs.Span.{Span}
 use Rattle.heap_store.specs.View.{View}
-use Rattle.heap_store.specs.Jobs.{IsJob, IsEventNeed, IsEventBuildable, may_seek, may_stage_seek}
+use Rattle.heap_store.specs.Jobs.{IsJob, IsEventNeed, IsEventBuildable, may_seek, other_seeks, may_stage_seek}
 use Rattle.heap_store.proofs.GrowthLaws.{at_true, grows_trans, is_value_up}
 use Rattle.heap_store.proofs.ReadLaws.{holds_at, rec_back}
 use Rattle.heap_store.proofs.ValueLaws.{Waits, value_down}
 use Rattle.bank_queue.specs.declared.queue.Top.{Top}
 use Rattle.bank_queue.specs.Queue.{top_record, top_places, places_for, looks_at_front, is_ready_top, IsReadyEvent}
 use Rattle.bank_queue.proofs.Fronts.{waiting_front, front_cell}
-use Rattle.bank_queue.proofs.QueueEntries.{queued-length}
+use Rattle.heap_store.proofs.QueueEntries.{queued-length}
 use Rattle.bank_queue.proofs.Tops.{OldTop, old_top, top_means}
 use Rattle.bank_queue.proofs.TopsPaid.{front_funded}
 
@@ -150,7 +150,7 @@ event_need {w} law job kind t e look waits =
     let r = waiting_front law t.front.0 (old_top law job.base.root.0 t e).well.front waits.pending in
     record {
       work = r.work;
-      sought = or_left _ (may_stage_seek w t.front.0 job.stage) (or_left (holds (recs w) job.base.root.0 (may_seek w job.op job.base.root.0 t.front.0)) (holds (recs w) job.other.root.0 (may_seek w job.op job.other.root.0 t.front.0)) (rw e (k.seeks w job.base.root.0)));
+      sought = or_left _ (may_stage_seek w t.front.0 job.stage) (or_left (holds (recs w) job.base.root.0 (may_seek w job.op job.base.root.0 t.front.0)) (other_seeks w job t.front.0) (rw e (k.seeks w job.base.root.0)));
       not_done = waits.undone;
       forces = rw kind k.forces;
       funded = rw r.here (front_funded law job.base.root.0 t e k.some r.rec r.here r.rotation);

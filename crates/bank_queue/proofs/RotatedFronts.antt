@@ -1,11 +1,11 @@
 -- What is left of a rotation after some tails, and that fronts reach only cells and rotations.
-use Rattle.std.proofs.Common.{◌≡◌, ℕ, suc, ◌+◌, ◌-◌, ◌*◌, ◌<◌, eqb, leb, refl, sym, ap, ◌∙◌, arith, ⊎_elim, Bool, true, false, cond, ◌&&◌, Some, length, drop}
+use Rattle.std.proofs.Common.{◌≡◌, ℕ, zero, suc, ◌+◌, ◌-◌, ◌*◌, ◌<◌, eqb, leb, refl, sym, ap, ◌∙◌, arith, ⊎_elim, Bool, true, false, cond, ◌&&◌, Some, List, [], ◌∷◌, length, drop}
 use Rattle.std.proofs.lemmas.Bool.{true≢false, and_parts, and_from, or_left, eqb-true, eq-eqb, le-leb, lt-leb, cond-true, cond-false, cases_eq, cases_lt}
 use Rattle.lazy_rec.specs.declared.places.Ref.{Ref}
 use Rattle.lazy_rec.specs.declared.records.Rec.{Rec}
 use Rattle.lazy_rec.specs.declared.records.Rec.TheVariants.{Nil, Cons, BankRot}
 use Rattle.lazy_rec.specs.Named.{Records}
-use Rattle.lazy_rec.specs.Meaning.{an_item, cells}
+use Rattle.lazy_rec.specs.Meaning.{Entry, an_item, cells}
 use Rattle.heap_store.specs.World.{World, recs, holds}
 use Rattle.heap_store.specs.Completion.{is_plain}
 use Rattle.heap_store.specs.Lawful.{IsLawful, is_any_bank_rotation, bank_front_of, is_bank_front, is_bank_origin, is_bank_rotation_of, same_entries, is_rotated}
@@ -20,7 +20,18 @@ use Rattle.heap_store.proofs.EntryLaws.{entries_agree, entries_same}
 use Rattle.bank_queue.specs.Front.{is_front}
 use Rattle.bank_queue.proofs.Fronts.{plain_front, rotation_front, front_there, front_plain, FrontCell}
 use Rattle.bank_queue.proofs.RotationLaws.{rotation_well, rotation_most, rotation_length}
-use Rattle.bank_queue.proofs.QueueEntries.{drop_next}
+
+-- ---- entries dropped
+
+drop_none : (k : ℕ) (xs : List Entry) → xs ≡ [] → drop k xs ≡ []
+drop_none zero xs e = e
+drop_none (suc k) xs e = rw e refl
+
+-- one more entry dropped
+drop_next : (n : ℕ) (x : Entry) (xs ys : List Entry) → drop n ys ≡ x ∷ xs → drop (n + 1) ys ≡ xs
+drop_next n x xs [] h = absurd (let z : [] ≡ x ∷ xs = sym (drop_none n [] refl) ∙ h in cc)
+drop_next zero x xs (y ∷ ys) h = let z : y ∷ ys ≡ x ∷ xs = h in cc
+drop_next (suc n) x xs (y ∷ ys) h = let e : suc n + 1 ≡ suc (n + 1) = omega arith in rw e (drop_next n x xs ys h)
 
 -- ---- fronts reach only cells and rotations
 

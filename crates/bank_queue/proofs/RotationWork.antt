@@ -21,7 +21,7 @@ use Rattle.heap_store.proofs.MeaningLaws.{cells_is}
 use Rattle.heap_store.proofs.ValueLaws.{Waits, value_down}
 use Rattle.heap_store.proofs.HeightLaws.{item_height}
 use Rattle.heap_store.proofs.CellLaws.{same_means}
-use Rattle.bank_queue.specs.Queue.{nothing_told}
+use Rattle.heap_store.specs.OneStage.{nothing_told}
 use Rattle.bank_queue.proofs.Fronts.{waiting_front, front_cell}
 use Rattle.bank_queue.proofs.RotationLaws.{RotationWell, rotation_well, rotation_height, same_rotation}
 use Rattle.bank_queue.proofs.PaidFronts.{xs_paid, paid_funded}

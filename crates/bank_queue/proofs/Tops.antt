@@ -32,7 +32,7 @@ use Rattle.bank_queue.specs.declared.queue.Top.{Top}
 use Rattle.bank_queue.specs.Front.{is_front}
 use Rattle.bank_queue.specs.Queue.{top_record, top_places, top_gain, IsRotatable, IsNearQueue}
 use Rattle.bank_queue.proofs.Fronts.{plain_front, front_there, front_sort}
-use Rattle.bank_queue.proofs.QueueEntries.{queued, queued-items}
+use Rattle.heap_store.proofs.QueueEntries.{queued, queued-items}
 use Rattle.bank_queue.proofs.RotatedFronts.{front_bank, bank_front, rotated_of, rotated_from, rotated_front, rotated_fits}
 use Rattle.bank_queue.proofs.TopsShown.{first_gain}
 

@@ -7,8 +7,6 @@ use Rattle.lazy_rec.specs.declared.events.Op.TheVariants as ops
 use Rattle.lazy_rec.specs.Plain.{most_items}
 use Rattle.lazy_rec.specs.Meaning.{cells}
 use Rattle.heap_store.specs.declared.jobs.EventJob.{EventJob}
-use Rattle.heap_store.specs.declared.jobs.After.{After}
-use Rattle.heap_store.specs.declared.jobs.After.TheVariants.{End, Next}
 use Rattle.heap_store.specs.World.{World, recs, holds, is_value}
 use Rattle.heap_store.specs.Values.{is_list}
 use Rattle.heap_store.specs.Budget.{gain_at}
@@ -76,17 +74,3 @@ pub record IsNearQueue (w : World) (t : Top) (place : ℕ) : Type 0 where
   pub near : t.lenr ≤ t.lenf + 1
   pub paid : t.lenf < t.lenr → is_paid_front w t.front.0 ≡ true
   pub rotated : t.lenr ≤ t.lenf → (t.rotated ≡ true) × (t.origin.0 < place) × (is_rotated (recs w) t.front.0 t.lenf t.origin.0 t.n t.tails ≡ true)
-
--- the event has ended: no operation of a queue has a second stage
-abbrev pub is_end : After → Bool
-is_end (End _ _ _) = true
-is_end (Next _) = false
-
--- the event ended at this root
-abbrev pub ends_at : After → ℕ → Bool
-ends_at (End root _ _) p = eqb root.0 p
-ends_at (Next _) p = false
-
--- a rotation tells its build nothing but the number of its places, which its record gives
-abbrev pub nothing_told : World → ℕ → ℕ → Type 0
-nothing_told w s nodes = Unit {0}

@@ -1,17 +1,17 @@
 //! The operations of banker's queues, each in one stage.
-ghost use Rattle.std.specs.Prelude.{◌≡◌, ◌+◌, ◌^◌, ◌<◌, true, Some};
+ghost use Rattle.std.specs.Prelude.{◌≡◌, ◌+◌, ◌^◌, ◌<◌, ◌≤◌, true, Some};
+ghost use Rattle.lazy_rec.specs.declared.limits.TheConstants.{MOST_ITEMS};
 ghost use Rattle.heap_store.specs.World.{recs};
 ghost use Rattle.heap_store.specs.Lawful.{is_any_bank_rotation};
 ghost use Rattle.heap_store.specs.View.{Quiet};
 ghost use Rattle.heap_store.specs.Jobs.{IsJob, EventPrepared, IsEventBuildable, IsEventBuilt};
-ghost use Rattle.bank_queue.specs.Queue.{top_record, places_for, looks_at_front, ends_at, is_end, IsReadyEvent};
+ghost use Rattle.heap_store.specs.OneStage.{ends_at, is_end};
+ghost use Rattle.bank_queue.specs.Queue.{top_record, places_for, looks_at_front, IsReadyEvent};
 
 use crate::queue::{Top, put_top, read_top};
 use heap_store::{After, Cursor, EventJob, Heap, Prep, Run, Version, first_cell, value_place};
+use lazy_rec::limits::MOST_ITEMS;
 use lazy_rec::{Kind, Op, Rec, Ref, Reply};
-
-/// The most items of one version.
-const MOST_ITEMS: u32 = 2_147_483_647;
 
 /// What an operation of a queue needs: `head` and `tail` the first cell of a front that isn't empty. The number of places
 /// is exact. No operation has cells to pass one by one, so the cursor stays.
@@ -65,7 +65,7 @@ fn looks(op: Op, top: &Top) -> bool
 
 /// How many places an operation takes.
 fn places(op: Op, top: &Top) -> u32
-    requires { top.now.lenf + top.now.lenr < 2147483648 }
+    requires { top.now.lenf + top.now.lenr ≤ MOST_ITEMS }
     ensures { result ≡ places_for op top.now.lenf top.now.lenr }
 {
     match op {

@@ -1,6 +1,6 @@
 //! The pending work of banker's queues alone.
 ghost use Rattle.heap_store.specs.Lawful.{is_any_bank_rotation};
-ghost use Rattle.bank_queue.specs.Queue.{nothing_told};
+ghost use Rattle.heap_store.specs.OneStage.{nothing_told};
 
 use crate::rotation;
 use heap_store::{Built, Cursor, Heap, Jobs, Prep, Run};

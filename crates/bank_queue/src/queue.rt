@@ -84,6 +84,7 @@ pub(crate) fn read_top<H: Heap>(h: &mut H, root: Ref) -> Top
 /// Publishes a top. Where the rear is longer than the front, it is that of a new rotation of both. It spends a credit for
 /// each unit of the latest rotation that it shows first (Okasaki's debit law): one more for an item on the rear, and two
 /// for a tail. So by the time of a new rotation all units of the old one are discharged.
+#[inline(always)]
 pub(crate) fn put_top<H: Heap>(h: &mut H, top: Top, run: &mut Run) -> Ref
     requires top { IsNearQueue (H.view h.old).seen top run.old.next }
     requires held { IsInHand (H.view h.old).hand run.old }

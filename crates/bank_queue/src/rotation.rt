@@ -3,7 +3,7 @@ ghost use Rattle.std.specs.Prelude.{◌≡◌, ◌+◌, ◌<◌, true, Some};
 ghost use Rattle.heap_store.specs.World.{recs};
 ghost use Rattle.heap_store.specs.Lawful.{is_any_bank_rotation};
 ghost use Rattle.heap_store.specs.View.{Quiet};
-ghost use Rattle.bank_queue.specs.Queue.{nothing_told};
+ghost use Rattle.heap_store.specs.OneStage.{nothing_told};
 ghost use Rattle.heap_store.specs.Jobs.{cursor_fits, Prepared, IsBuildable, IsBuilt};
 
 use heap_store::{Built, Cursor, Heap, Prep, Run, first_cell, list_cell, value_place};

@@ -3,7 +3,7 @@ use Rattle.lazy_rec.specs.Kinds.{belongs}
 use Rattle.bank_queue.proofs.QueueJobs.{only_size}
 use Rattle.bank_queue.proofs.QueueEnds.{same_root}
 use Rattle.bank_queue.proofs.Operations.{size_built}
-use Rattle.bank_queue.specs.Queue.{is_end}
+use Rattle.heap_store.specs.OneStage.{is_end}
 use Rattle.bank_queue.proofs.events.build_event.Goals as goal
 
 pub returns-in_default : goal.returns-in_default

@@ -8,7 +8,8 @@ use Rattle.heap_store.proofs.WellNamed.{named_sort}
 use Rattle.bank_queue.proofs.QueueJobs.{looks_some, BuildTop, build_root, build_later}
 use Rattle.bank_queue.proofs.QueueEnds.{same_root}
 use Rattle.bank_queue.proofs.Operations.{none_built, head_built}
-use Rattle.bank_queue.specs.Queue.{looks_at_front, is_end}
+use Rattle.heap_store.specs.OneStage.{is_end}
+use Rattle.bank_queue.specs.Queue.{looks_at_front}
 use Rattle.bank_queue.proofs.events.head.Goals as goal
 use Rattle.bank_queue.proofs.events.head.Goals.{After-read_top-top}
 

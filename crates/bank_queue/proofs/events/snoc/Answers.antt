@@ -7,7 +7,8 @@ use Rattle.bank_queue.proofs.QueueJobs.{due_is, BuildTop, build_root, build_top,
 use Rattle.bank_queue.proofs.QueueEnds.{same_root, snoc_end}
 use Rattle.bank_queue.proofs.Operations.{full_built, fits_rear, near_snoc, snoc_items}
 use Rattle.bank_queue.proofs.TopsPaid.{snoc_gain}
-use Rattle.bank_queue.specs.Queue.{is_end, top_gain}
+use Rattle.heap_store.specs.OneStage.{is_end}
+use Rattle.bank_queue.specs.Queue.{top_gain}
 use Rattle.bank_queue.proofs.events.snoc.Goals as goal
 use Rattle.bank_queue.proofs.events.snoc.Goals.{After-read_top-top, After-put-rear}
 

@@ -11,7 +11,8 @@ use Rattle.bank_queue.proofs.QueueJobs.{looks_some, top_least, due_is, BuildTop,
 use Rattle.bank_queue.proofs.QueueEnds.{same_root, tail_end}
 use Rattle.bank_queue.proofs.Operations.{none_built, near_tail, tail_items}
 use Rattle.bank_queue.proofs.TopsPaid.{tail_gain}
-use Rattle.bank_queue.specs.Queue.{looks_at_front, is_end, top_gain}
+use Rattle.heap_store.specs.OneStage.{is_end}
+use Rattle.bank_queue.specs.Queue.{looks_at_front, top_gain}
 use Rattle.bank_queue.proofs.events.tail.Goals as goal
 use Rattle.bank_queue.proofs.events.tail.Goals.{After-read_top-top, After-first_cell-cell}
 
