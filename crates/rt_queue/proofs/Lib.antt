@@ -1,0 +1,11 @@
+pub mod Fronts
+pub mod RotationLaws
+pub mod RotationWork
+pub mod Tops
+pub mod Schedules
+pub mod NewTops
+pub mod TopPuts
+pub mod NearQueues
+pub mod QueueJobs
+pub mod QueueEnds
+pub mod Operations

@@ -1,0 +1,192 @@
+//! The operations of real-time queues, each in one stage.
+ghost use Rattle.std.specs.Prelude.{◌≡◌, ◌+◌, ◌^◌, ◌<◌, ◌≤◌, true};
+ghost use Rattle.lazy_rec.specs.declared.limits.TheConstants.{MOST_ITEMS};
+ghost use Rattle.heap_store.specs.Lawful.{is_any_rt_rotation};
+ghost use Rattle.heap_store.specs.View.{Quiet};
+ghost use Rattle.heap_store.specs.Jobs.{IsJob, EventPrepared, IsEventBuildable, IsEventBuilt};
+ghost use Rattle.heap_store.specs.OneStage.{ends_at, is_end};
+ghost use Rattle.rt_queue.specs.Queue.{places_for, looks_at, needs_schedule, IsReadyEvent};
+
+use crate::queue::{Top, put_top, read_top};
+use heap_store::{After, Cursor, EventJob, Heap, Prep, Run, Version, first_cell, value_place};
+use lazy_rec::limits::MOST_ITEMS;
+use lazy_rec::{Kind, Op, Rec, Ref, Reply};
+
+/// What an operation of a queue needs: at most its schedule, which needs nothing. So no operation completes more than one
+/// suspension, in one step. `snoc` and `tail` look at the schedule; `head` at the front, and where that isn't known it is the
+/// schedule. The number of places is exact. No operation has cells to pass one by one, so the cursor stays.
+pub fn prepare_event<H: Heap>(h: &mut H, job: &EventJob, cursor: &mut Cursor) -> Prep
+    requires job { IsJob (H.view h.old).seen job.now }
+    requires kind { job.now.base.kind ≡ Kind.Rtq }
+    ensures quiet { Quiet (H.view h.old) (H.view h.new) }
+    ensures cursor { cursor.new ≡ cursor.old }
+    ensures answer { EventPrepared is_any_rt_rotation IsReadyEvent (H.view h.new).seen job.now result }
+    ensures need { needs_schedule (H.view h.new).seen job.now.base.root.0 result ≡ true }
+{
+    let top = read_top(h, job.base.root);
+    let ready = Prep::Ready {
+        nodes: places(job.op, &top),
+    };
+    let Some(place) = looked_at(job.op, &top) else {
+        return ready;
+    };
+    match value_place(h, place) {
+        Some(_) => ready,
+        None => Prep::Need(place),
+    }
+}
+
+/// Does an operation of a queue. What replies `Empty` or `TooLong`, `size` and `head` end at the base's root and spend
+/// nothing. A `snoc` and a `tail` spend one credit at most, which is their due: the new top shows at most one unit first, that
+/// of its schedule.
+pub fn build_event<H: Heap>(h: &mut H, job: &EventJob, cursor: &Cursor, run: &mut Run) -> After
+    requires kind { job.now.base.kind ≡ Kind.Rtq }
+    requires build { IsEventBuildable IsReadyEvent (H.view h.old) job.now run.old }
+    ensures built { IsEventBuilt (H.view h.old) (H.view h.new) job.now run.old run.new result }
+    ensures base { run.old.next ≡ run.old.end → ends_at result job.now.base.root.0 ≡ true }
+    ensures ends { is_end result ≡ true }
+{
+    match job.op {
+        Op::Snoc => snoc(h, job, run),
+        Op::Tail => tail(h, job, run),
+        Op::Head => head(h, job, run),
+        _ => same(&job.base, Reply::Number(u64::from(job.base.size))),
+    }
+}
+
+/// The place that an operation looks at, if it looks at any.
+fn looked_at(op: Op, top: &Top) -> Option<Ref>
+    requires { top.now.lenf + top.now.lenr ≤ MOST_ITEMS }
+    ensures { result ≡ looks_at op top.now }
+{
+    match op {
+        Op::Snoc if top.lenf + top.lenr < MOST_ITEMS => Some(top.sched),
+        Op::Tail if top.lenf > 0 => Some(top.sched),
+        Op::Head if top.lenf > 0 => Some(top.front),
+        _ => None,
+    }
+}
+
+/// How many places an operation takes.
+fn places(op: Op, top: &Top) -> u32
+    requires { top.now.lenf + top.now.lenr ≤ MOST_ITEMS }
+    ensures { result ≡ places_for op top.now.lenf top.now.lenr }
+{
+    match op {
+        Op::Snoc => {
+            if top.lenf + top.lenr == MOST_ITEMS {
+                0
+            } else if top.lenr < top.lenf {
+                2
+            } else {
+                3
+            }
+        }
+        Op::Tail => {
+            if top.lenf == 0 {
+                0
+            } else if top.lenr < top.lenf {
+                1
+            } else {
+                2
+            }
+        }
+        _ => 0,
+    }
+}
+
+/// An event that makes nothing ends at its base's root.
+fn same(base: &Version, reply: Reply) -> After
+    ensures { result ≡ After.End base.now.root base.now.size reply }
+{
+    After::End {
+        root: base.root,
+        size: base.size,
+        reply,
+    }
+}
+
+/// The argument of an event, a number of 64 bits.
+#[inline]
+fn argument(job: &EventJob) -> u64
+    ensures same { result ≡ job.now.arg }
+    ensures small { job.now.arg < 2 ^ 64 }
+{
+    job.arg
+}
+
+fn snoc<H: Heap>(h: &mut H, job: &EventJob, run: &mut Run) -> After
+    requires kind { job.now.base.kind ≡ Kind.Rtq }
+    requires op { job.now.op ≡ Op.Snoc }
+    requires build { IsEventBuildable IsReadyEvent (H.view h.old) job.now run.old }
+    ensures built { IsEventBuilt (H.view h.old) (H.view h.new) job.now run.old run.new result }
+    ensures base { run.old.next ≡ run.old.end → ends_at result job.now.base.root.0 ≡ true }
+    ensures ends { is_end result ≡ true }
+{
+    if job.base.size == MOST_ITEMS {
+        return same(&job.base, Reply::TooLong);
+    }
+    let item = argument(job);
+    let top = read_top(h, job.base.root);
+    let rear = h.put(
+        run,
+        Rec::LCons {
+            child: false,
+            value: item,
+            rest: top.rear,
+        },
+    );
+    let longer = Top {
+        rear,
+        lenr: top.lenr + 1,
+        ..top
+    };
+    let root = put_top(h, longer, run);
+    After::End {
+        root,
+        size: job.base.size + 1,
+        reply: Reply::Ok,
+    }
+}
+
+fn tail<H: Heap>(h: &mut H, job: &EventJob, run: &mut Run) -> After
+    requires kind { job.now.base.kind ≡ Kind.Rtq }
+    requires op { job.now.op ≡ Op.Tail }
+    requires build { IsEventBuildable IsReadyEvent (H.view h.old) job.now run.old }
+    ensures built { IsEventBuilt (H.view h.old) (H.view h.new) job.now run.old run.new result }
+    ensures base { run.old.next ≡ run.old.end → ends_at result job.now.base.root.0 ≡ true }
+    ensures ends { is_end result ≡ true }
+{
+    let top = read_top(h, job.base.root);
+    if top.lenf == 0 {
+        return same(&job.base, Reply::Empty);
+    }
+    let cell = first_cell(h, top.front);
+    let shorter = Top {
+        front: cell.rest,
+        lenf: top.lenf - 1,
+        ..top
+    };
+    let root = put_top(h, shorter, run);
+    After::End {
+        root,
+        size: job.base.size - 1,
+        reply: Reply::Ok,
+    }
+}
+
+fn head<H: Heap>(h: &mut H, job: &EventJob, run: &mut Run) -> After
+    requires kind { job.now.base.kind ≡ Kind.Rtq }
+    requires op { job.now.op ≡ Op.Head }
+    requires build { IsEventBuildable IsReadyEvent (H.view h.old) job.now run.old }
+    ensures built { IsEventBuilt (H.view h.old) (H.view h.new) job.now run.old run.new result }
+    ensures base { run.old.next ≡ run.old.end → ends_at result job.now.base.root.0 ≡ true }
+    ensures ends { is_end result ≡ true }
+{
+    let top = read_top(h, job.base.root);
+    if top.lenf == 0 {
+        return same(&job.base, Reply::Empty);
+    }
+    let cell = first_cell(h, top.front);
+    same(&job.base, Reply::Number(cell.value))
+}
