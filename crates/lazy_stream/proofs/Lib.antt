@@ -1,0 +1,12 @@
+pub mod Streams
+pub mod Appends
+pub mod AppendFamilies
+pub mod AppendWork
+pub mod Walks
+pub mod Reversals
+pub mod ReversalWork
+pub mod Tops
+pub mod JobStreams
+pub mod StreamEnds
+pub mod Operations
+pub mod NewStreams
