@@ -1,0 +1,5 @@
+pub mod Trees
+pub mod Laying
+pub mod Work
+pub mod Removal
+pub mod Heap

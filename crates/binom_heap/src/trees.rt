@@ -1,0 +1,191 @@
+//! Binomial trees, and lists of them in rising ranks: reading, linking, inserting and merging (Okasaki, 3.2).
+ghost use Rattle.std.specs.Prelude.{◌≡◌, ◌+◌, ◌*◌, ◌<◌, ◌≤◌, true, Some, None, IfSome, ◌∷◌, option_map, slice_get};
+ghost use Rattle.lazy_rec.specs.declared.places.Item.{Item};
+ghost use Rattle.lazy_rec.specs.Meaning.{means};
+ghost use Rattle.lazy_rec.specs.Plain.{rising};
+ghost use Rattle.heap_store.specs.World.{recs};
+ghost use Rattle.heap_store.specs.View.{Quiet};
+ghost use Rattle.heap_store.specs.Forest.{no_trees, a_tree, add_tree, merge, forest, is_trees_only};
+ghost use Rattle.binom_heap.specs.Trees.{IsFirst, trees_met, merge_places};
+ghost use Rattle.binom_heap.specs.Laying.{MayLink, Linked, MayPrecede, MayInsert, MayMerge, Grown, Laid};
+
+use heap_store::{Heap, Run};
+use lazy_rec::{Item, Rec, Ref};
+
+/// The place of the list without trees, one of the fixed places.
+pub(crate) const NO_TREES: Ref = Ref(2);
+
+/// A published tree: its place and its fields. A tree of rank r has 2^r items, the least of them at its root.
+#[derive(Clone, Copy)]
+pub struct BinomialTree {
+    pub place: Ref,
+    pub rank: u8,
+    pub item: Item,
+    pub kids: Ref,
+}
+
+/// The first tree of a list, and the trees after it.
+#[derive(Clone, Copy)]
+pub struct FirstTree {
+    pub tree: BinomialTree,
+    pub rest: Ref,
+}
+
+/// The first tree of a list, if it has one.
+pub(crate) fn first_tree<H: Heap>(h: &mut H, list: Ref) -> Option<FirstTree>
+    requires { is_trees_only (recs (H.view h.old).seen) list.0 ≡ true }
+    ensures quiet { Quiet (H.view h.old) (H.view h.new) }
+    ensures none { result ≡ None → forest (recs (H.view h.old).seen) list.0 ≡ no_trees }
+    ensures some { IfSome result (λ f. IsFirst (H.view h.old).seen list.0 f) }
+{
+    match h.read(list) {
+        Rec::TCons { tree, rest } => match h.read(tree) {
+            Rec::Tree { rank, item, kids } => {
+                let tree = BinomialTree {
+                    place: tree,
+                    rank,
+                    item,
+                    kids,
+                };
+                Some(FirstTree { tree, rest })
+            }
+            _ => unreachable!(),
+        },
+        _ => None,
+    }
+}
+
+/// Links two trees of one rank: the one with the lesser root, of equal ones the first, gets the other as its first child. It
+/// takes two places, for the list of children and for the tree.
+pub(crate) fn link<H: Heap>(
+    h: &mut H,
+    first: BinomialTree,
+    second: BinomialTree,
+    run: &mut Run,
+) -> BinomialTree
+    requires { MayLink (H.view h.old) run.old first second }
+    ensures { Linked (H.view h.old) (H.view h.new) run.old run.new first second result }
+{
+    if first.item.0 <= second.item.0 {
+        put_under(h, first, second, run)
+    } else {
+        put_under(h, second, first, run)
+    }
+}
+
+/// The tree that a tree becomes with another one of its rank and of no lesser root as its first child.
+fn put_under<H: Heap>(
+    h: &mut H,
+    top: BinomialTree,
+    below: BinomialTree,
+    run: &mut Run,
+) -> BinomialTree
+    requires trees { MayLink (H.view h.old) run.old top below }
+    requires order { top.item.0 ≤ below.item.0 }
+    ensures { Grown (H.view h.old) (H.view h.new) run.old run.new top below result }
+{
+    let kids = h.put(
+        run,
+        Rec::TCons {
+            tree: below.place,
+            rest: top.kids,
+        },
+    );
+    let rank = top.rank + 1;
+    let place = h.put(
+        run,
+        Rec::Tree {
+            rank,
+            item: top.item,
+            kids,
+        },
+    );
+    BinomialTree {
+        place,
+        rank,
+        item: top.item,
+        kids,
+    }
+}
+
+/// Inserts a tree into a list whose ranks rise from the tree's on: while the list begins with a tree of equal rank, it is linked
+/// with it, as a carry in binary numbers. It takes two places for each link, and one.
+pub(crate) fn insert_tree<H: Heap>(h: &mut H, tree: BinomialTree, list: Ref, run: &mut Run) -> Ref
+    requires { MayInsert (H.view h.old) run.old tree list.0 }
+    ensures { Laid (H.view h.old) (H.view h.new) run.old run.new (2 * trees_met tree.rank (forest (recs (H.view h.old).seen) list.0) + 1) result.0 (add_tree tree.rank tree.item.0 (forest (recs (H.view h.old).seen) tree.kids.0) (forest (recs (H.view h.old).seen) list.0)) }
+{
+    let Some(first) = first_tree(h, list) else {
+        return put_first(h, tree, list, run);
+    };
+    if first.tree.rank != tree.rank {
+        return put_first(h, tree, list, run);
+    }
+    let linked = link(h, tree, first.tree, run);
+    insert_tree(h, linked, first.rest, run)
+}
+
+/// A tree in front of a list.
+pub(crate) fn put_first<H: Heap>(h: &mut H, tree: BinomialTree, list: Ref, run: &mut Run) -> Ref
+    requires { MayPrecede (H.view h.old) run.old tree list.0 }
+    ensures { Laid (H.view h.old) (H.view h.new) run.old run.new 1 result.0 (a_tree tree.rank tree.item.0 (forest (recs (H.view h.old).seen) tree.kids.0) (forest (recs (H.view h.old).seen) list.0)) }
+{
+    h.put(
+        run,
+        Rec::TCons {
+            tree: tree.place,
+            rest: list,
+        },
+    )
+}
+
+/// Merges two lists of rising ranks: a tree of a rank that the other list lacks goes in front of what the rests make, and two of
+/// one rank are linked and inserted into it.
+pub(crate) fn merge<H: Heap>(h: &mut H, list1: Ref, list2: Ref, run: &mut Run) -> Ref
+    requires { MayMerge (H.view h.old) run.old list1.0 list2.0 }
+    ensures { Laid (H.view h.old) (H.view h.new) run.old run.new (merge_places (forest (recs (H.view h.old).seen) list1.0) (forest (recs (H.view h.old).seen) list2.0)) result.0 (merge (forest (recs (H.view h.old).seen) list1.0) (forest (recs (H.view h.old).seen) list2.0)) }
+{
+    let Some(a) = first_tree(h, list1) else {
+        return list2;
+    };
+    let Some(b) = first_tree(h, list2) else {
+        return list1;
+    };
+    if a.tree.rank < b.tree.rank {
+        let rest = merge(h, a.rest, list2, run);
+        return put_first(h, a.tree, rest, run);
+    }
+    if b.tree.rank < a.tree.rank {
+        let rest = merge(h, list1, b.rest, run);
+        return put_first(h, b.tree, rest, run);
+    }
+    let rest = merge(h, a.rest, b.rest, run);
+    let linked = link(h, a.tree, b.tree, run);
+    insert_tree(h, linked, rest, run)
+}
+
+/// The least item of a list, if it has any. Each tree has its least item at its root.
+pub(crate) fn least_root<H: Heap>(h: &mut H, list: Ref) -> Option<Item>
+    requires { is_trees_only (recs (H.view h.old).seen) list.0 ≡ true }
+    ensures quiet { Quiet (H.view h.old) (H.view h.new) }
+    ensures least { option_map (λ (x : Item). x.0) result ≡ slice_get (means (recs (H.view h.old).seen) list.0) 0 }
+{
+    match first_tree(h, list) {
+        Some(first) => Some(least_from(h, first.tree.item, first.rest)),
+        None => None,
+    }
+}
+
+/// The least of an item and of all items of a list.
+fn least_from<H: Heap>(h: &mut H, item: Item, list: Ref) -> Item
+    requires { is_trees_only (recs (H.view h.old).seen) list.0 ≡ true }
+    ensures quiet { Quiet (H.view h.old) (H.view h.new) }
+    ensures least { slice_get (rising (item.0 ∷ means (recs (H.view h.old).seen) list.0)) 0 ≡ Some result.0 }
+{
+    match first_tree(h, list) {
+        Some(first) => {
+            let least = Item(item.0.min(first.tree.item.0));
+            least_from(h, least, first.rest)
+        }
+        None => item,
+    }
+}
