@@ -1,0 +1,63 @@
+-- The kinds that are built, their pending work, and what their prepares tell their builds. A kind joins with a line in each of
+-- these tables.
+use Rattle.std.specs.Prelude.{◌≡◌, ℕ, Bool, true, false, not, ◌&&◌, ◌||◌, List, Option, Some}
+use Rattle.lazy_rec.specs.declared.records.Rec.{Rec}
+use Rattle.lazy_rec.specs.declared.records.Rec.TheVariants.{Append, Reverse, BankRot, RtRot}
+use Rattle.lazy_rec.specs.declared.events.Kind.{Kind}
+use Rattle.lazy_rec.specs.declared.events.Kind.TheVariants as kinds
+use Rattle.lazy_rec.specs.declared.events.Op.{Op}
+use Rattle.lazy_rec.specs.declared.events.Event.{Event}
+use Rattle.lazy_rec.specs.Tests.{is_some_and}
+use Rattle.lazy_rec.specs.Kinds.{belongs, uses_base}
+use Rattle.lazy_rec.specs.History.{event_of, kind_of}
+use Rattle.heap_store.specs.declared.jobs.EventJob.{EventJob}
+use Rattle.heap_store.specs.World.{World, recs}
+use Rattle.heap_store.specs.Lawful.{is_any_bank_rotation, is_any_rt_rotation}
+use Rattle.heap_store.specs.OneStage.{nothing_told}
+use Rattle.lazy_stream.specs.Stream as stream
+use Rattle.lazy_stream.specs.Stream.{is_stream_work}
+use Rattle.bank_queue.specs.Queue as bank
+use Rattle.rt_queue.specs.Queue as real_time
+
+-- the kinds that are built, with all their operations
+abbrev pub is_kind_built : Kind → Bool
+is_kind_built kinds.Stream = true
+is_kind_built kinds.Bankq = true
+is_kind_built kinds.Rtq = true
+is_kind_built _ = false
+
+-- whether the operation of the kind is built: `new`, and those that the kind has
+abbrev pub is_built : Kind → Op → Bool
+is_built k op = is_kind_built k && (belongs k op || not (uses_base op))
+
+-- whether the event of this name is built, by the kind that the name stands for
+abbrev pub is_built_at : List Event → ℕ → Event → Bool
+is_built_at events i e = is_some_and (λ k. is_built k e.op) (kind_of (event_of events) i)
+
+abbrev pub AreBuilt : List Event → Type 0
+AreBuilt events = (i : ℕ) (e : Event) → event_of events i ≡ Some e → is_built_at events i e ≡ true
+
+-- pending work of a kind that is built
+abbrev pub is_any_work : Rec → Bool
+is_any_work r = is_stream_work r || is_any_bank_rotation r || is_any_rt_rotation r
+
+-- what the prepare of pending work tells its build, by the work's record
+abbrev pub told_of : World → ℕ → ℕ → Option Rec → Type 0
+told_of w s nodes (Some (Append _ _ _ _ _)) = nothing_told w s nodes
+told_of w s nodes (Some (Reverse _ _)) = nothing_told w s nodes
+told_of w s nodes (Some (BankRot _ _ _ _ _)) = nothing_told w s nodes
+told_of w s nodes (Some (RtRot _ _ _ _ _ _)) = nothing_told w s nodes
+told_of w s nodes _ = Unit {0}
+
+abbrev pub told_by : World → ℕ → ℕ → Type 0
+told_by w s nodes = told_of w s nodes (recs w s)
+
+-- what the answer that a stage is ready tells its build, by the base's kind
+abbrev pub ready_of : Kind → World → EventJob → ℕ → Type 0
+ready_of kinds.Stream w job nodes = stream.IsReadyEvent w job nodes
+ready_of kinds.Bankq w job nodes = bank.IsReadyEvent w job nodes
+ready_of kinds.Rtq w job nodes = real_time.IsReadyEvent w job nodes
+ready_of _ w job nodes = Unit {0}
+
+abbrev pub IsReadyEvent : World → EventJob → ℕ → Type 0
+IsReadyEvent w job nodes = ready_of job.base.kind w job nodes

@@ -1,0 +1,19 @@
+//! Which operations of which kinds are built.
+ghost use Rattle.std.specs.Prelude.{◌≡◌};
+ghost use Rattle.kind_table.specs.Kinds.{is_kind_built, is_built};
+
+use lazy_rec::{Kind, Op};
+
+/// Whether the kind is built.
+fn is_kind_built(kind: Kind) -> bool
+    ensures { result ≡ is_kind_built kind }
+{
+    matches!(kind, Kind::Stream | Kind::Bankq | Kind::Rtq)
+}
+
+/// Whether the operation of the kind is built. An operation that the kind doesn't have isn't.
+pub fn is_built(kind: Kind, op: Op) -> bool
+    ensures { result ≡ is_built kind op }
+{
+    is_kind_built(kind) && (kind.has(op) || matches!(op, Op::New(_)))
+}
