@@ -14,24 +14,16 @@ use Rattle.lazy_rec.specs.declared.states.SuspState.TheVariants as states
 use Rattle.heap_store.proofs.StageLaws.{most_in_steps}
 use Rattle.heap_store.proofs.AttemptLaws.{changed_attempts}
 use Rattle.heap_store.proofs.GrowthLaws.{grows_trans}
-use Rattle.heap_store.proofs.Steps.{SameRows_trans}
+pub use Rattle.heap_store.proofs.Steps.{contains-append_right, contains-places_from}
+use Rattle.heap_store.proofs.Steps.{SameRows_trans, alone_of, reserved_held}
 use Rattle.force_engine.specs.declared.stack.Frame.{Frame}
 use Rattle.force_engine.specs.Stacked.{claims_of, places_of, places_for, claimed_places, hand_with, IsStacked, Passed, work}
 use Rattle.force_engine.specs.Forced.{IsKept}
 use Rattle.force_engine.proofs.Growing.{HeightsRise-grows}
 use Rattle.force_engine.proofs.Means.{places_cons, places_grow, claim_places-frames, claimed_frames, well_frames}
 use Rattle.force_engine.proofs.Giving.{newest_of, without-newest}
-use Rattle.force_engine.proofs.Turns.{alone_on}
 
 -- ---- reserved places
-
-pub contains-append_right : (xs ys : List ℕ) (p : ℕ) → contains ys p ≡ true → contains (xs ++ ys) p ≡ true
-contains-append_right [] ys p h = h
-contains-append_right (x ∷ xs) ys p h = let ih = contains-append_right xs ys p in grind (arith, common_steps, ih)
-
-pub contains-places_from : (n k p : ℕ) → n ≤ p → p < n + k → contains (places_from n k) p ≡ true
-contains-places_from n zero p low high = absurd (omega arith)
-contains-places_from n (suc k) p low high = let ih = contains-places_from (suc n) k p in grind (arith, common_steps, ih)
 
 without-places : (a n k : ℕ) → a ≤ n → (b : ℕ) → n + k ≤ b → without a b (places_from n k) ≡ []
 without-places a n zero h b le = refl
@@ -50,7 +42,6 @@ steps_most {told} {w} {p} {nodes} r = let e = r.here in let m : nodes ≤ 8 * st
 pub buildable : {told : Readiness} {old mid : View} {nodes : ℕ} {run : Span} (newest : Frame) (frames : List Frame) → IsLawfulView old → IsStacked old (newest ∷ frames) → IsReady told old.seen newest.place.0 nodes → Reserved old mid nodes run → IsBuildable told mid newest.place run
 buildable {told} {old} {mid} {nodes} {run} newest frames law s r k =
     let c : mid.hand.claims ≡ claims_of (newest ∷ frames) = ap (λ (h : Hand). h.claims) k.hand ∙ s.claims in
-    let p : mid.hand.reserved ≡ old.hand.reserved ++ places_from run.next nodes = ap (λ (h : Hand). h.reserved) k.hand in
     record {
       base = old.seen;
       base_lawful = law.world;
@@ -59,7 +50,7 @@ buildable {told} {old} {mid} {nodes} {run} newest frames law s r k =
       ready = r;
       above = λ q t h. k.fresh q t (k.grows.records q t h);
       size = k.size;
-      held = record { each = λ q low high. rw p (contains-append_right old.hand.reserved (places_from run.next nodes) q (contains-places_from run.next nodes q low (omega (arith, k.size)))) };
+      held = reserved_held k;
       newest = rw c refl;
     }
 
@@ -101,8 +92,8 @@ finished {told} {old} {mid} {built} {new} {nodes} {place} {steps} {run} newest f
     let f = b.filled in
     let grows = grows_trans k.grows (grows_trans f.grows m.grows) in
     let about : new.about ≡ old.about = m.about ∙ (f.about ∙ k.about) in
-    let alone_mid : mid.about.alone ≡ true = alone_on old mid k.about s.alone in
-    let alone_built : built.about.alone ≡ true = alone_on mid built f.about alone_mid in
+    let alone_mid : mid.about.alone ≡ true = alone_of old mid k.about s.alone in
+    let alone_built : built.about.alone ≡ true = alone_of mid built f.about alone_mid in
     let c : mid.hand.claims ≡ claims_of (newest ∷ frames) = ap (λ (h : Hand). h.claims) k.hand ∙ s.claims in
     let older : drop 1 built.hand.claims ≡ claims_of frames = f.older ∙ ap (drop 1) c in
     let one = newest_of newest frames law s.claims in
@@ -128,7 +119,7 @@ finished {told} {old} {mid} {built} {new} {nodes} {place} {steps} {run} newest f
     let one_less : suc (length new.hand.claims) ≡ length old.hand.claims = rw (claims, s.claims) refl in
     record {
       kept = record { steps = steps; done = m.done };
-      stacked = record { alone = alone_on old new about s.alone; claims = claims; rises = HeightsRise-grows law.world grows frames s.rises.2; room = omega (arith, a, all, rest, fewest, s.room) };
+      stacked = record { alone = alone_of old new about s.alone; claims = claims; rises = HeightsRise-grows law.world grows frames s.rises.2; room = omega (arith, a, all, rest, fewest, s.room) };
       passed = record {
         grows = grows;
         hand = new_hand;

@@ -17,7 +17,8 @@ use Rattle.force_engine.specs.Stacked.{claims_of, claimed_places, IsStacked, Kee
 use Rattle.force_engine.specs.Forced.{IsForcible, IsUndone, Forced, IsGivenUp}
 use Rattle.force_engine.proofs.Giving.{newest_of}
 use Rattle.force_engine.proofs.Means.{claimed_not_done, claimed_frames, idle_allowance, means_trans}
-use Rattle.force_engine.proofs.Turns.{alone_on, Opened, opened, Passed_trans, gave_up_later}
+use Rattle.heap_store.proofs.Steps.{alone_of}
+use Rattle.force_engine.proofs.Turns.{Opened, opened, Passed_trans, gave_up_later}
 
 forcible_parts : (does : Rec → Bool) (w : World) (s : ℕ) (r : Rec) → IsForcible does w s → recs w s ≡ Some r → is_pending r ≡ true → (does r ≡ true) × (is_funded w s r ≡ true)
 forcible_parts does w s r h e p =
@@ -37,7 +38,7 @@ module _ (v w x : View) (s : Ref) (alone : v.about.alone ≡ true) (idle : v.han
   none =
       let e : w.hand.claims ≡ [] = ap (λ (h : Hand). h.claims) q.hand ∙ idle in
       let no_places : claimed_places w ≡ 0 = claimed_frames w [] e in
-      record { alone = alone_on v w q.about alone; claims = e; rises = tt; room = omega (arith, no_places) }
+      record { alone = alone_of v w q.about alone; claims = e; rises = tt; room = omega (arith, no_places) }
 
   -- the first claim
   pub first_claim : IsLawfulView w → is_published (recs w.seen) s.0 ≡ true → (f : Frame) → f.place ≡ s → Opened w x (f ∷ [])

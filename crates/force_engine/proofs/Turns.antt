@@ -17,7 +17,7 @@ use Rattle.lazy_rec.specs.declared.states.SuspState.TheVariants as states
 use Rattle.heap_store.proofs.AttemptLaws.{attempts_grow, changed_attempts}
 use Rattle.heap_store.proofs.RoomLaws.{refused_within, same_room}
 use Rattle.heap_store.proofs.GrowthLaws.{at_true, grows_refl, grows_trans}
-use Rattle.heap_store.proofs.Steps.{SameRows_refl, SameRows_trans}
+use Rattle.heap_store.proofs.Steps.{SameRows_refl, SameRows_trans, alone_of}
 use Rattle.force_engine.specs.declared.stack.Frame.{Frame}
 use Rattle.force_engine.specs.declared.solo.GiveUp.TheVariants as causes
 use Rattle.force_engine.specs.Stacked.{claims_of, places_of, claimed_places, KeepsMeans, hand_with, IsBelow, HeightsRise, IsStacked, Passed, work}
@@ -27,9 +27,6 @@ use Rattle.force_engine.proofs.Giving.{given_shown}
 use Rattle.heap_store.proofs.CauseLaws.{wanted_at, many_given_back}
 use Rattle.force_engine.proofs.Growing.{HeightsRise-grows}
 use Rattle.force_engine.proofs.Means.{places_cons, claim_places-frames, claimed_frames, claimed_later, steps_grow, means_refl, means_trans}
-
-pub alone_on : (a b : View) → b.about ≡ a.about → a.about.alone ≡ true → b.about.alone ≡ true
-alone_on a b e h = ap (λ (t : About). t.alone) e ∙ h
 
 -- ---- passing on
 
@@ -84,7 +81,7 @@ opened {old} {new} {frames} need law s h b w =
     let more : claimed_places new ≡ places_of_steps (recs old.seen) need.place.0 + claimed_places old = omega (arith, same, claimed_frames new (need ∷ frames) claims, places_cons (recs new.seen) need.place.0 (places_of frames), claimed_later new frames law s.claims w.grows) in
     record {
       stacked = record {
-        alone = alone_on old new w.about s.alone;
+        alone = alone_of old new w.about s.alone;
         claims = claims;
         room = omega (arith, more, a, s.room);
         rises = HeightsRise-grows law.world w.grows (need ∷ frames) (h, b, s.rises);
@@ -158,7 +155,7 @@ was_refused {told} {old} {mid} {new} {k} {full} newest frames law law' s ready f
       once = b.once;
       rose = λ p h. omega (arith, b.rose p h, attempts_grow f.grows p);
       no_more = λ alone. (let m = f.alone alone in
-          let n = b.no_more (alone_on old mid f.about alone) in
+          let n = b.no_more (alone_of old mid f.about alone) in
           record {
             rows = SameRows_trans (record { rows = ap (λ (w : World). w.rows) m.0; named = m.2 }) n.rows;
             by_one = λ p h. subst (λ w. RoseByOne w new.seen p) m.0 (n.by_one p h);
@@ -171,9 +168,9 @@ was_refused {told} {old} {mid} {new} {k} {full} newest frames law law' s ready f
         asked = omega (arith, f.asked, f.wanted);
         wanted_by = or_left _ _ (wanted_at new.seen full.wanted newest.place.0 shown most);
         no_room = omega (arith, f.no_room, f.wanted);
-        drawn = λ alone. (let m = f.alone alone in m.3 ∙ sym m.1 ∙ sym (b.drawn (alone_on old mid f.about alone)));
+        drawn = λ alone. (let m = f.alone alone in m.3 ∙ sym m.1 ∙ sym (b.drawn (alone_of old mid f.about alone)));
         within = λ alone. (let m = f.alone alone in
-            let n = b.no_more (alone_on old mid f.about alone) in
+            let n = b.no_more (alone_of old mid f.about alone) in
             omega (arith, refused_within old law alone k few, m.3, f.wanted, same_room old.seen new.seen (n.rows.rows ∙ ap (λ (w : World). w.rows) m.0)));
       };
     }
@@ -194,8 +191,8 @@ cause_later {a} {b} c given p (causes.Full full) w = record {
   asked = w.asked;
   wanted_by = w.wanted_by;
   no_room = rw (← ap (λ (t : About). t.capacity) p.about) w.no_room;
-  drawn = λ alone. w.drawn (alone_on a b p.about alone);
-  within = λ alone. w.within (alone_on a b p.about alone);
+  drawn = λ alone. w.drawn (alone_of a b p.about alone);
+  within = λ alone. w.within (alone_of a b p.about alone);
 }
 cause_later {a} {b} c given p causes.NoMemory w = record { hand = w.hand ∙ rw p.hand refl; refusals = w.refusals ∙ p.refusals; held = w.held; shown = w.shown }
 
@@ -206,6 +203,6 @@ gave_up_later {a} {b} {c} {given} p cause g = record {
   means = means_trans p.means g.means;
   once = g.once;
   rose = λ q h. omega (arith, g.rose q h, attempts_grow p.grows q);
-  no_more = λ alone. passed_no_more p (g.no_more (alone_on a b p.about alone));
+  no_more = λ alone. passed_no_more p (g.no_more (alone_of a b p.about alone));
   cause_is = cause_later c given p cause g.cause_is;
 }

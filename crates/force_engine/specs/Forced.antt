@@ -2,7 +2,7 @@
 use Rattle.std.specs.Prelude.{◌≡◌, ℕ, ◌+◌, ◌<◌, ◌≤◌, min, Bool, true, false, not, ◌&&◌, ◌||◌, Some, None, List, [], length}
 use Rattle.std.specs.List.{list_any}
 use Rattle.lazy_rec.specs.declared.records.Rec.{Rec}
-use Rattle.lazy_rec.specs.declared.limits.TheConstants.{MOST_DRAWN}
+use Rattle.lazy_rec.specs.declared.limits.TheConstants.{MOST_DRAWN, MOST_GIVEN_UP, ROOM_FOR_CLAIMS}
 use Rattle.lazy_rec.specs.Named.{is_pending}
 use Rattle.heap_store.specs.Budget.{room_of, is_funded}
 use Rattle.heap_store.specs.declared.claims.Full.{Full}
@@ -46,11 +46,11 @@ pub record Forced (old new : View) : Type 0 where
 
 -- an attempt at the suspension was given back. Its count stands still at its end
 abbrev pub Rose : World → World → ℕ → Type 0
-Rose old new p = min (attempts_at old p + 1) 65535 ≤ attempts_at new p
+Rose old new p = min (attempts_at old p + 1) MOST_GIVEN_UP ≤ attempts_at new p
 
 -- one attempt was, and no more
 abbrev pub RoseByOne : World → World → ℕ → Type 0
-RoseByOne old new p = attempts_at new p ≡ min (attempts_at old p + 1) 65535
+RoseByOne old new p = attempts_at new p ≡ min (attempts_at old p + 1) MOST_GIVEN_UP
 
 -- one attempt at each of these suspensions was given back, none at any other, and the rows are as before
 pub record NoMoreGiven (old new : View) (given : List ℕ) : Type 0 where
@@ -87,12 +87,13 @@ pub record WasRefused (old new : View) (given : List ℕ) (full : Full) : Type 0
   -- no more was wanted than the events and their dues allow
   pub within : old.about.alone ≡ true → full.drawn + full.wanted ≤ room_of new.seen
 
--- no reserve was refused; at least 64 claims were in hand at once, so as many suspensions show attempts that were given back
+-- no reserve was refused; at least as many claims as there is room for were in hand at once, so as many suspensions show
+-- attempts that were given back
 pub record WantedMemory (old new : View) (given : List ℕ) : Type 0 where
   pub hand : new.hand ≡ hand_idle old.hand new.hand
   pub refusals : new.refusals ≡ old.refusals
-  pub held : 64 ≤ length given
-  pub shown : 64 ≤ given_back_count new.seen
+  pub held : ROOM_FOR_CLAIMS ≤ length given
+  pub shown : ROOM_FOR_CLAIMS ≤ given_back_count new.seen
 
 abbrev pub CauseIs : View → View → List ℕ → GiveUp → Type 0
 CauseIs old new given (causes.Full full) = WasRefused old new given full

@@ -23,3 +23,18 @@ pub fn peek<H: Heap>(pass: &mut H, s: Ref) -> Peek
         SuspState::Done { place, .. } => Peek::Value(place),
     }
 }
+
+#[cfg(test)]
+mod tests {
+    use super::*;
+    use heap_store::PlainHeap;
+    use std::test::Fail;
+
+    /// The end of streams, the first fixed record, is a value.
+    #[test]
+    fn a_value_shows_itself(rt: HostRuntime) -> Result<(), Fail> {
+        let mut heap = PlainHeap::open(rt.alloc(), 0, 0)?;
+        assert_eq!(rt; peek(&mut heap, Ref(0)), Peek::Value(Ref(0)));
+        Ok(())
+    }
+}

@@ -18,7 +18,7 @@ use thiserror::Error;
 pub enum GiveUp {
     #[error(transparent)]
     Full(Full),
-    #[error("out of memory")]
+    #[error("{}", lazy_rec::NoMemory)]
     NoMemory,
 }
 

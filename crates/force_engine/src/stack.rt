@@ -1,7 +1,9 @@
 //! The work stack of one pass.
 ghost use Rattle.std.specs.Prelude.{◌≡◌, ◌≤◌, [], ◌∷◌, ◌++◌, length, OnOk, OnErr, IfOk, IfSome, IfNone};
+ghost use Rattle.lazy_rec.specs.declared.limits.TheConstants.{ROOM_FOR_CLAIMS};
 
 use heap_store::Cursor;
+use lazy_rec::limits::ROOM_FOR_CLAIMS;
 use lazy_rec::{NoMemory, Ref};
 use std::alloc::Global;
 use std::marker::Model;
@@ -13,8 +15,8 @@ pub struct Frame {
     pub cursor: Cursor,
 }
 
-/// The claims of a force that wait, the oldest first. Between forces there are none. The stack has room for 64 from the
-/// beginning, so that a force which nests no deeper takes no memory.
+/// The claims of a force that wait, the oldest first. Between forces there are none. The stack has room for
+/// `ROOM_FOR_CLAIMS` from the beginning, so that a force which nests no deeper takes no memory.
 #[derive(Drop)]
 pub struct Stack {
     frames: Vec<Frame>,
@@ -22,31 +24,32 @@ pub struct Stack {
 
 impl Model for Stack {
     ghost use Rattle.std.specs.Prelude.{◌≤◌, List, vec_capacity};
+    ghost use Rattle.lazy_rec.specs.declared.limits.TheConstants.{ROOM_FOR_CLAIMS};
     ghost use Rattle.force_engine.specs.declared.stack.Frame.{Frame};
 
     ghost Value = { List Frame };
 
     ghost view = { λ s. s.frames.items };
 
-    ghost invariant = { λ s. 64 ≤ vec_capacity s.frames };
+    ghost invariant = { λ s. ROOM_FOR_CLAIMS ≤ vec_capacity s.frames };
 }
 
 impl Stack {
-    /// An empty stack with room for 64 claims.
+    /// An empty stack with room for `ROOM_FOR_CLAIMS`.
     pub fn open(alloc: Global) -> Result<Stack, NoMemory>
         ensures { IfOk result (λ stack. stack ≡ []) }
     {
-        match Vec::with_capacity(alloc, 64) {
+        match Vec::with_capacity(alloc, ROOM_FOR_CLAIMS) {
             Ok(frames) => Ok(Stack { frames }),
             Err(_) => Err(NoMemory),
         }
     }
 
-    /// Puts a claim on top. Only a stack of 64 claims or more can want memory for that.
+    /// Puts a claim on top. Only a stack of `ROOM_FOR_CLAIMS` or more can want memory for that.
     pub(crate) fn push(&mut self, frame: Frame) -> Result<(), NoMemory>
         ensures ok { OnOk result (self.new ≡ self.old ++ frame ∷ []) }
         ensures err { OnErr result (self.new ≡ self.old) }
-        ensures full { OnErr result (64 ≤ length self.old) }
+        ensures full { OnErr result (ROOM_FOR_CLAIMS ≤ length self.old) }
     {
         match self.frames.push(frame) {
             Ok(()) => Ok(()),
