@@ -10,6 +10,7 @@ use Rattle.std.proofs.lemmas.List.Splits.{slice_split_at, slice_split_none, leng
 use Rattle.std.proofs.lemmas.List.Elements.{All-append, All-cons, All-nil}
 use Rattle.std.proofs.lemmas.Fmt.{decimal_is_IsNumeral, length-decimal-le}
 use Rattle.std.proofs.lemmas.Str.Parse.{digit_from_value}
+use Rattle.lazy_rec.proofs.TestLaws.{implies_to}
 use Rattle.lazy_rec.specs.declared.events.Kind.{Kind}
 use Rattle.lazy_rec.specs.declared.events.Kind.TheVariants as kind
 use Rattle.lazy_rec.specs.declared.events.Op.{Op}
@@ -36,7 +37,7 @@ use Rattle.script_text.proofs.Follow.{number_small, writable_more, writable_none
 -- ---- words of a line
 
 -- a word that can stand in a line
-record IsWord (w : List ℕ) : Type 0 where
+pub record IsWord (w : List ℕ) : Type 0 where
   pub some : 0 < length w
   pub no_space : All (λ b. eqb b 32 ≡ false) w
   pub no_end : All (λ b. eqb b 10 ≡ false) w
@@ -48,27 +49,27 @@ no_byte b (c ∷ cs) h =
     let parts = and_parts (not (eqb c b)) (list_all (λ c. not (eqb c b)) cs) h in
     All-cons (λ c. eqb c b ≡ false) c cs (not-true (eqb c b) parts.0) (no_byte b cs parts.1)
 
-abbrev is_clean : List ℕ → Bool
+abbrev pub is_clean : List ℕ → Bool
 is_clean w = ltb 0 (length w) && list_all (λ c. not (eqb c 32)) w && list_all (λ c. not (eqb c 10)) w
 
 -- a word that is written out
-literal : (w : List ℕ) → is_clean w ≡ true → IsWord w
+pub literal : (w : List ℕ) → is_clean w ≡ true → IsWord w
 literal w h =
     let parts = and_parts (ltb 0 (length w) && list_all (λ c. not (eqb c 32)) w) (list_all (λ c. not (eqb c 10)) w) h in
     let first = and_parts (ltb 0 (length w)) (list_all (λ c. not (eqb c 32)) w) parts.0 in
     record { some = ltb-true 0 (length w) first.0; no_space = no_byte 32 w first.1; no_end = no_byte 10 w parts.1 }
 
-words_join : (w : List ℕ) (ws : List (List ℕ)) → IsWord w → AllByRecursion IsWord ws → words_of (join_with_byte 32 (w ∷ ws)) ≡ w ∷ ws
+pub words_join : (w : List ℕ) (ws : List (List ℕ)) → IsWord w → AllByRecursion IsWord ws → words_of (join_with_byte 32 (w ∷ ws)) ≡ w ∷ ws
 words_join w [] h hs = ap (filter is_filled) (slice_split_none (λ b. eqb b 32) w h.no_space) ∙ kept w [] h.some
 words_join w (v ∷ vs) h hs =
     ap (filter is_filled) (slice_split_at (λ b. eqb b 32) w 32 (join_with_byte 32 (v ∷ vs)) h.no_space refl)
     ∙ (kept w (slice_split (λ b. eqb b 32) (join_with_byte 32 (v ∷ vs))) h.some ∙ ap (λ us. w ∷ us) (words_join v vs hs.0 hs.1))
 
-join_no_end : (w : List ℕ) (ws : List (List ℕ)) → IsWord w → AllByRecursion IsWord ws → All (λ b. eqb b 10 ≡ false) (join_with_byte 32 (w ∷ ws))
+pub join_no_end : (w : List ℕ) (ws : List (List ℕ)) → IsWord w → AllByRecursion IsWord ws → All (λ b. eqb b 10 ≡ false) (join_with_byte 32 (w ∷ ws))
 join_no_end w [] h hs = h.no_end
 join_no_end w (v ∷ vs) h hs = All-append (λ b. eqb b 10 ≡ false) w (32 ∷ join_with_byte 32 (v ∷ vs)) h.no_end (All-cons (λ b. eqb b 10 ≡ false) 32 (join_with_byte 32 (v ∷ vs)) refl (join_no_end v vs hs.0 hs.1))
 
-line_ends : (line rest : List ℕ) → All (λ b. eqb b 10 ≡ false) line → lines_of (line ++ 10 ∷ rest) ≡ line ∷ lines_of rest
+pub line_ends : (line rest : List ℕ) → All (λ b. eqb b 10 ≡ false) line → lines_of (line ++ 10 ∷ rest) ≡ line ∷ lines_of rest
 line_ends line rest h =
     ap ended (slice_split_at (λ b. eqb b 10) line 10 rest h refl)
     ∙ ended_more line (slice_split (λ b. eqb b 10) rest) (omega (arith, length-slice_split (λ b. eqb b 10) rest))
@@ -85,7 +86,7 @@ all_ascii [] h = refl
 all_ascii (c ∷ cs) h = rw ((digit_is c h.0).0) (all_ascii cs h.1)
 
 -- digits are not a byte below them
-no_digit : (b : ℕ) (ds : List ℕ) → b < 48 → AllDigits 10 ds → All (λ c. eqb c b ≡ false) ds
+pub no_digit : (b : ℕ) (ds : List ℕ) → b < 48 → AllDigits 10 ds → All (λ c. eqb c b ≡ false) ds
 no_digit b [] l h = All-nil (λ c. eqb c b ≡ false)
 no_digit b (c ∷ cs) l h = let low = (digit_is c h.0).1 in All-cons (λ c. eqb c b ≡ false) c cs (ne_eqb c b (λ e. omega arith)) (no_digit b cs l h.1)
 
@@ -158,7 +159,7 @@ cut_none w h =
     let digits = all_drop (length w - 2) w h in
     rw (no_dot (drop (length w - 2) w) 50 digits, no_dot (drop (length w - 2) w) 49 digits) refl
 
-ending_back : (form : Form) (w : List ℕ) (second : Bool) → list_all is_ascii_digit w ≡ true → (second ≡ true → has_labels form ≡ true) → ending_of form (cond second (w ++ codes ".2") w) ≡ (w, second)
+pub ending_back : (form : Form) (w : List ℕ) (second : Bool) → list_all is_ascii_digit w ≡ true → (second ≡ true → has_labels form ≡ true) → ending_of form (cond second (w ++ codes ".2") w) ≡ (w, second)
 ending_back form w true digits h = rw (h refl) (cut_second w)
 ending_back form w false digits h = by (has_labels form)
   where
@@ -166,7 +167,7 @@ ending_back form w false digits h = by (has_labels form)
     by true = cut_none w digits
     by false = refl
 
-no_label : (w : List ℕ) → list_all is_ascii_digit w ≡ true → begins_label w ≡ false
+pub no_label : (w : List ℕ) → list_all is_ascii_digit w ≡ true → begins_label w ≡ false
 no_label [] h = refl
 no_label (c ∷ cs) h =
     let high = (digit_read c (and_parts (is_ascii_digit c) (list_all is_ascii_digit cs) h).0).1 in ne_eqb c 64 (λ e. omega arith)
@@ -197,11 +198,11 @@ plain_line : (form : Form) (names : Names) (w : List ℕ) (ws : List (List ℕ))
 unfolding after_label
 plain_line form names w ws h = let plain : (has_labels form && begins_label w) ≡ false = and_right (has_labels form) (begins_label w) h in rw plain refl
 
-line_event : (before : ScriptView) (names : Names) (w : List ℕ) (ws : List (List ℕ)) (s : Syntax) → length before.events < 200000 → begins_label w ≡ false → syntax_of before.form w ≡ Some s → event_at before names w ws ≡ event_with before names s ws
+pub line_event : (before : ScriptView) (names : Names) (w : List ℕ) (ws : List (List ℕ)) (s : Syntax) → length before.events < 200000 → begins_label w ≡ false → syntax_of before.form w ≡ Some s → event_at before names w ws ≡ event_with before names s ws
 unfolding event_at
 line_event before names w ws s room plain found = rw (lt-ltb (length before.events) 200000 room, plain_line before.form names w ws plain, found) refl
 
-new_back : (before : ScriptView) (names : Names) (w : List ℕ) (k : Kind) → kind_named w ≡ Some k → event_with before names syntax.New (w ∷ []) ≡ Ok (event (ops.New k) 0 0 0)
+pub new_back : (before : ScriptView) (names : Names) (w : List ℕ) (k : Kind) → kind_named w ≡ Some k → event_with before names syntax.New (w ∷ []) ≡ Ok (event (ops.New k) 0 0 0)
 unfolding event_with
 new_back before names w k h = rw h refl
 
@@ -233,13 +234,9 @@ or_not true b h k = refl
 or_not false true h k = cc
 or_not false false h k = cc
 
-implied : (a b : Bool) → implies a b ≡ true → a ≡ true → b ≡ true
-implied true b h k = h
-implied false b h k = cc
-
 second_in_form : (before : ScriptView) (v : ℕ) → IsWritable before → is_named_well (event_of before.events) v ≡ true → is_second v ≡ true → has_labels before.form ≡ true
 second_in_form before v w h second =
-    let split = some_passes (λ (e : Event). is_split e.op) (event_of before.events (event_name v)) (implied (is_second v) (is_split_at before.events (event_name v)) h second) in
+    let split = some_passes (λ (e : Event). is_split e.op) (event_of before.events (event_name v)) (implies_to (is_second v) (is_split_at before.events (event_name v)) h second) in
     let e = split.0 in
     or_not (has_labels before.form) (is_split e.op) (and_parts (leb e.arg (most_number before.form)) (has_labels before.form || not (is_split e.op)) (w.in_form (event_name v) e split.1)).1 split.2
 
@@ -253,12 +250,12 @@ op_word_test (ops.New k) = refl
 op_word_test _ = refl
 
 -- the word of an operation is a word of a line, and begins no comment and no label
-record IsPlain (w : List ℕ) : Type 0 where
+pub record IsPlain (w : List ℕ) : Type 0 where
   pub word : IsWord w
   pub no_comment : is_comment w ≡ false
   pub no_label : begins_label w ≡ false
 
-op_word_is : (o : Op) → IsPlain (op_word o)
+pub op_word_is : (o : Op) → IsPlain (op_word o)
 op_word_is o = go (op_word o) (op_word_test o)
   where
     go : (w : List ℕ) → (is_clean w && not (is_comment w) && not (begins_label w)) ≡ true → IsPlain w
@@ -268,12 +265,12 @@ op_word_is o = go (op_word o) (op_word_test o)
         record { word = literal w both.0; no_comment = not-true (is_comment w) both.1; no_label = not-true (begins_label w) parts.1 }
 
 -- an operation is found in a form that has it
-found_in : (form : Form) (o : Op) (as_syntax : Op → Syntax) (other argument : Bool) → Shaped as_syntax o other argument → (has_labels form || not (is_split o)) ≡ true → syntax_of form (op_word o) ≡ Some (as_syntax o)
+pub found_in : (form : Form) (o : Op) (as_syntax : Op → Syntax) (other argument : Bool) → Shaped as_syntax o other argument → (has_labels form || not (is_split o)) ≡ true → syntax_of form (op_word o) ≡ Some (as_syntax o)
 found_in forms.One o as_syntax other argument s h = s.early (not-true (is_split o) h)
 found_in forms.Two o as_syntax other argument s h = s.found
 found_in forms.Three o as_syntax other argument s h = s.found
 
-kind_reads : (k : Kind) → (kind_named (kind_word k) ≡ Some k) × IsWord (kind_word k)
+pub kind_reads : (k : Kind) → (kind_named (kind_word k) ≡ Some k) × IsWord (kind_word k)
 kind_reads kind.Stream = (refl, literal (codes "stream") refl)
 kind_reads kind.Bankq = (refl, literal (codes "bankq") refl)
 kind_reads kind.Rtq = (refl, literal (codes "rtq") refl)
@@ -283,7 +280,7 @@ kind_reads kind.Prio = (refl, literal (codes "prio") refl)
 kind_reads kind.Ord = (refl, literal (codes "ord") refl)
 kind_reads kind.Cat = (refl, literal (codes "cat") refl)
 
-new_found : (form : Form) (k : Kind) → syntax_of form (op_word (ops.New k)) ≡ Some syntax.New
+pub new_found : (form : Form) (k : Kind) → syntax_of form (op_word (ops.New k)) ≡ Some syntax.New
 new_found forms.One k = refl
 new_found forms.Two k = refl
 new_found forms.Three k = refl

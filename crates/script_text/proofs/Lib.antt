@@ -1,8 +1,10 @@
 pub mod Tables
 pub mod Cuts
+pub mod Digits
 pub mod Fits
 pub mod Follow
 pub mod Back
 pub mod Unique
 pub mod SoFar
 pub mod GeneratorLaws
+pub mod CommonLines

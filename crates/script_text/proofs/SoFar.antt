@@ -39,7 +39,7 @@ same_names s f g w ws h =
     ap (λ names. event_at s names w ws) one
 
 -- one more event at the end
-leads_more : (b : Before) (ls : List EventLine) (c : Before) (l : EventLine) (e : Event) → Leads b ls c → IsEventOf c l e → Leads b (ls ++ l ∷ []) (after c l e)
+pub leads_more : (b : Before) (ls : List EventLine) (c : Before) (l : EventLine) (e : Event) → Leads b ls c → IsEventOf c l e → Leads b (ls ++ l ∷ []) (after c l e)
 leads_more b [] c l e h is = (e, subst (λ x. IsEventOf x l e) (sym h) is, ap (λ x. after x l e) h)
 leads_more b (k ∷ ls) c l e h is = (h.0, h.1, leads_more (after b k h.0) ls c l e h.2 is)
 
@@ -56,7 +56,7 @@ reads_comment form all s names n l w ws ls rest e h c r =
 abbrev pub line_at : ℕ → List ℕ → List (List ℕ) → EventLine
 line_at n w ws = record { number = n; first = w; others = ws }
 
-at_event : (n : ℕ) (l w : List ℕ) (ws ls rest : List (List ℕ)) → rest ≡ l ∷ ls → words_of l ≡ w ∷ ws → is_comment w ≡ false → event_lines n rest ≡ line_at n w ws ∷ event_lines (n + 1) ls
+pub at_event : (n : ℕ) (l w : List ℕ) (ws ls rest : List (List ℕ)) → rest ≡ l ∷ ls → words_of l ≡ w ∷ ws → is_comment w ≡ false → event_lines n rest ≡ line_at n w ws ∷ event_lines (n + 1) ls
 at_event n l w ws ls rest e h c = ap (event_lines n) e ∙ (ap (λ vs. event_line n vs (event_lines (n + 1) ls)) h ∙ rw c refl)
 
 -- what names say after a line

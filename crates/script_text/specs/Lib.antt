@@ -5,3 +5,4 @@ pub mod Labels
 pub mod Events
 pub mod Text
 pub mod Generator
+pub mod Common

@@ -3,7 +3,8 @@ ghost use Rattle.std.specs.Prelude.{◌≡◌};
 ghost use Rattle.std.specs.Result.{result_map_both};
 ghost use Rattle.script_text.specs.Lines.{words_of};
 ghost use Rattle.script_text.specs.Labels.{names_in};
-ghost use Rattle.script_text.specs.Events.{on_base, on_two, new_event, event_with, labels_line, after_label, event_at};
+ghost use Rattle.lazy_rec.specs.declared.events.Op.TheVariants.{New};
+ghost use Rattle.script_text.specs.Events.{event, on_base, on_two, new_event, event_with, labels_line, after_label, event_at};
 
 use crate::lines::{begins_with, is_label, next_word, number, one_word, two_words};
 use crate::model::{Form, Reason};
@@ -11,10 +12,11 @@ use crate::script::Script;
 use crate::versions::{Labels, Said, kind_before, name_of, said_of, version_of};
 use crate::words::{Syntax, has_labels, named_kind, named_syntax};
 use lazy_rec::limits::MOST_EVENTS;
-use lazy_rec::{Event, Op};
+use lazy_rec::{Event, Kind, Op};
 
-// The event with a base, and no other.
-fn on_base(before: &Script, op: Op, base: Said, arg: u64) -> Result<Event, Reason>
+/// The event with a base, and no other.
+#[inline(always)]
+pub fn on_base(before: &Script, op: Op, base: Said, arg: u64) -> Result<Event, Reason>
     ensures { result ≡ on_base before.now.events op base arg }
 {
     let kind = kind_before(before, base.name)?;
@@ -30,8 +32,8 @@ fn on_base(before: &Script, op: Op, base: Said, arg: u64) -> Result<Event, Reaso
     })
 }
 
-// The event with two bases.
-fn on_two(before: &Script, op: Op, base: Said, other: Said) -> Result<Event, Reason>
+/// The event with two bases.
+pub fn on_two(before: &Script, op: Op, base: Said, other: Said) -> Result<Event, Reason>
     ensures { result ≡ on_two before.now.events op base other }
 {
     let kind = kind_before(before, base.name)?;
@@ -52,17 +54,24 @@ fn on_two(before: &Script, op: Op, base: Said, other: Said) -> Result<Event, Rea
     })
 }
 
-// The event that makes an empty structure.
-fn new_event(word: &[u8]) -> Result<Event, Reason>
-    ensures { result ≡ new_event word.now }
+/// The event that makes an empty structure.
+pub fn event_of_new(kind: Kind) -> Event
+    ensures { result ≡ event (New kind) 0 0 0 }
 {
-    let kind = named_kind(word).ok_or(Reason::UnknownWord)?;
-    Ok(Event {
+    Event {
         op: Op::New(kind),
         base: 0,
         other: 0,
         arg: 0,
-    })
+    }
+}
+
+// The event that makes an empty structure of a named kind.
+fn new_event(word: &[u8]) -> Result<Event, Reason>
+    ensures { result ≡ new_event word.now }
+{
+    let kind = named_kind(word).ok_or(Reason::UnknownWord)?;
+    Ok(event_of_new(kind))
 }
 
 // The event of an operation and the words after it.

@@ -1,6 +1,5 @@
 //! Scripts that are made from a number, the seed.
 ghost use Rattle.std.specs.Prelude.{◌≡◌, ◌<◌, ◌≤◌, length, IfOk};
-ghost use Rattle.lazy_rec.specs.Kinds.{uses_other, uses_argument};
 ghost use Rattle.script_text.specs.Events.{event};
 ghost use Rattle.script_text.specs.Generator.{next_state, shown, kind_in_turn, choices, choice, chosen, trimmed, chosen_event, bound_at, bound_of_event, small_event, next_event, state_after, generated};
 ghost use Rattle.lazy_rec.specs.declared.events.Op.TheVariants.{New};
@@ -110,38 +109,12 @@ fn chosen(made: u32, number: u32) -> u32
     made + 1 - 8 * (newer + 1)
 }
 
-fn uses_other(op: Op) -> bool
-    ensures { result ≡ uses_other op }
-{
-    matches!(op, Op::Append | Op::Meld | Op::Concat)
-}
-
-fn uses_argument(op: Op) -> bool
-    ensures { result ≡ uses_argument op }
-{
-    matches!(
-        op,
-        Op::Cons
-            | Op::Snoc
-            | Op::Insert
-            | Op::Pushl
-            | Op::Pushr
-            | Op::Nth
-            | Op::Take
-            | Op::Drop
-            | Op::Has
-            | Op::Remove
-            | Op::Upto
-            | Op::Split
-    )
-}
-
 // An event with only the fields that its operation uses.
 fn trimmed(op: Op, base: u32, other: u32, arg: u64) -> Event
     ensures { result ≡ trimmed op base other arg }
 {
-    let other = if uses_other(op) { other } else { 0 };
-    let arg = if uses_argument(op) { arg } else { 0 };
+    let other = if op.uses_other() { other } else { 0 };
+    let arg = if op.uses_argument() { arg } else { 0 };
     Event {
         op,
         base,
@@ -229,7 +202,7 @@ fn made_script(alloc: Global, seed: u64, events: u32) -> Result<Script, AllocErr
         let (event, after) = next_event(made, state, bounds.as_slice());
         let bound = bound_of_event(bounds.as_slice(), &event);
         bounds.push(bound)?;
-        script = script.with(event)?;
+        script.push(event)?;
         state = after;
     }
     Ok(script)

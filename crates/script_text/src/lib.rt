@@ -2,6 +2,7 @@
 //! is printed as one canonical text.
 #![tactic(auto)]
 
+mod common_lines;
 mod event_lines;
 mod generator;
 mod lines;

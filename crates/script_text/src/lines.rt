@@ -108,8 +108,8 @@ fn most_digits(form: Form) -> usize
     }
 }
 
-// The greatest number.
-fn most_number(form: Form) -> u64
+/// The greatest number.
+pub fn most_number(form: Form) -> u64
     ensures { result ≡ most_number form }
 {
     match form {

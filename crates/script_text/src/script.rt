@@ -1,5 +1,5 @@
 //! A script as a value, and its reader.
-ghost use Rattle.std.specs.Prelude.{◌≡◌, ℕ, suc, ◌≤◌, ◌⊎◌, ◌++◌, ◌∷◌, [], List, length, IfOk, OnOk, Ok, Err, Some};
+ghost use Rattle.std.specs.Prelude.{◌≡◌, ℕ, suc, ◌+◌, ◌≤◌, ◌⊎◌, ◌++◌, ◌∷◌, [], List, length, IfOk, OnOk, Ok, Err, Some};
 ghost use Rattle.lazy_rec.specs.History.{event_of, kind_of};
 ghost use Rattle.lazy_rec.specs.declared.events.Event.{Event};
 ghost use Rattle.script_text.specs.Lines.{words_of};
@@ -7,9 +7,11 @@ ghost use Rattle.script_text.specs.Words.{look};
 ghost use Rattle.script_text.specs.Labels.{names_in};
 ghost use Rattle.script_text.specs.Events.{ScriptView, is_split_at};
 ghost use Rattle.script_text.specs.Text.{IsText, IsFirstFault, IsWritable, Follows, AreKindsOf, events_with, labels_with, form_words, form_said, form_number};
+ghost use Rattle.script_text.specs.Common.{ReadOn};
 ghost use Rattle.script_text.specs.declared.model.Reason.{Reason};
 ghost use Rattle.script_text.specs.declared.model.ScriptFault.TheVariants.{Line, NoMemory};
 
+use crate::common_lines::common_event;
 use crate::event_lines::{event_at, labels_line};
 use crate::lines::{begins_with, next_line, next_word, two_words};
 use crate::model::{Form, Reason, ScriptFault};
@@ -115,24 +117,21 @@ impl Script {
         self.kind_of(event_name(event.base))
     }
 
-    /// The script with one more event.
-    pub(crate) fn with(self, event: Event) -> Result<Script, AllocError>
-        requires { Follows self event }
-        ensures { IfOk result (λ s. s ≡ events_with self event) }
+    /// Puts one more event behind the others.
+    #[inline(always)]
+    pub(crate) fn push(&mut self, event: Event) -> Result<(), AllocError>
+        requires { Follows self.old event }
+        ensures { OnOk result (self.new ≡ events_with self.old event) }
     {
         let kind = self.kind_made(event);
-        let Script {
-            form,
-            mut events,
-            mut kinds,
-        } = self;
-        kinds.push(kind)?;
-        events.push(event)?;
-        Ok(Script {
-            form,
-            events,
-            kinds,
-        })
+        self.kinds.push(kind)?;
+        match self.events.push(event) {
+            Ok(()) => Ok(()),
+            Err(_) => {
+                let _ = self.kinds.pop();
+                Err(AllocError)
+            }
+        }
     }
 }
 
@@ -193,6 +192,26 @@ fn with_label<'a>(
     Ok(())
 }
 
+// Reads the lines that are as most are, up to the first that isn't, and answers what follows them. `number` is that of the
+// last line that was read.
+#[inline(always)]
+fn read_common_lines<'a>(
+    script: &mut Script,
+    number: &mut u32,
+    bytes: &'a [u8],
+) -> Result<&'a [u8], AllocError>
+    requires few { number.old + length bytes.now ≤ MOST_SCRIPT_BYTES + 1 }
+    ensures { IfOk result (λ rest. ReadOn script.old (number.old + 1) bytes.entry.now script.new (number.new + 1) rest.now) }
+{
+    let mut rest = bytes;
+    while let Some((event, after)) = common_event(script, rest) {
+        script.push(event)?;
+        *number += 1;
+        rest = after;
+    }
+    Ok(rest)
+}
+
 /// Reads a script of at most 16,777,216 bytes.
 pub fn read_script(alloc: Global, bytes: &[u8]) -> Result<Script, ScriptFault>
     requires { length bytes.now ≤ MOST_SCRIPT_BYTES }
@@ -215,7 +234,7 @@ pub fn read_script(alloc: Global, bytes: &[u8]) -> Result<Script, ScriptFault>
     let mut labels = HashMap::new(alloc);
     let mut number = 1;
     let mut rest = after;
-    while let Some((line, after)) = next_line(rest) {
+    while let Some((line, after)) = next_line(read_common_lines(&mut script, &mut number, rest)?) {
         rest = after;
         number += 1;
         let Some((word, words)) = next_word(line) else {
@@ -227,7 +246,7 @@ pub fn read_script(alloc: Global, bytes: &[u8]) -> Result<Script, ScriptFault>
         match event_at(&script, &labels, word, words) {
             Ok(event) => {
                 with_label(&mut labels, &script, word)?;
-                script = script.with(event)?;
+                script.push(event)?;
             }
             Err(reason) => {
                 return Err(ScriptFault::Line {

@@ -5,7 +5,7 @@ use std::alloc::Global;
 use std::test::Fail;
 
 // Faulty texts, each with its first faulty line and the number of that line's first reason.
-const FAULTY: [(&str, u32, u8); 81] = [
+const FAULTY: [(&str, u32, u8); 29] = [
     ("", 1, 1),
     ("\n", 1, 1),
     ("\nlazy 1\n", 1, 1),
@@ -20,40 +20,9 @@ const FAULTY: [(&str, u32, u8); 81] = [
     ("lazy 1\r\n", 1, 1),
     ("lazy 1 #\n", 1, 1),
     ("lazy 1\0\n", 1, 1),
-    ("lazy 1\nqueue\n", 2, 2),
-    ("lazy 1\nNew seq\n", 2, 2),
-    ("lazy 1\nnew\tseq\n", 2, 2),
-    ("lazy 1\nnew list\n", 2, 2),
-    ("lazy 1\nnew seq\r\n", 2, 2),
-    ("lazy 1\nnew seq\0", 2, 2),
-    ("lazy 1\nnew séq\n", 2, 2),
-    ("lazy 1\n\u{a0}\n", 2, 2),
-    ("lazy 1\nnew\n", 2, 3),
-    ("lazy 1\nnew list list\n", 2, 3),
-    ("lazy 1\nnew seq # remark\n", 2, 3),
-    ("lazy 1\nnew seq\nsize\n", 3, 3),
-    ("lazy 1\nnew seq\nsize 1 1\n", 3, 3),
-    ("lazy 1\nnew seq\npushl 1\n", 3, 3),
-    ("lazy 1\nnew seq\nconcat 1 1 1\n", 3, 3),
-    ("lazy 1\nnew seq\nsize +1\n", 3, 4),
-    ("lazy 1\nnew seq\nsize -1\n", 3, 4),
-    ("lazy 1\nnew seq\nsize 1a\n", 3, 4),
-    ("lazy 1\nnew seq\nsize 1\t\n", 3, 4),
     ("lazy 1\nnew seq\nsize 00000000001\n", 3, 4),
     ("lazy 1\nnew seq\npushl 1 4294967296\n", 3, 4),
     ("lazy 1\nnew seq\npushl 1 9999999999\n", 3, 4),
-    ("lazy 1\nnew seq\npushl 1 100000000000000000000000\n", 3, 4),
-    ("lazy 1\nnew seq\npushl 9 #\n", 3, 4),
-    ("lazy 1\nnew seq\nsize 0\n", 3, 5),
-    ("lazy 1\nnew seq\nsize 4294967295\n", 3, 5),
-    ("lazy 1\nnew seq\nconcat 1 2\n", 3, 5),
-    ("lazy 1\nnew bankq\nsnoc 2 5", 3, 5),
-    ("lazy 1\n\n   \n#\n # remark\nsize 1\n", 6, 5),
-    ("lazy 1\nnew seq\nhead 1\n", 3, 6),
-    ("lazy 1\nnew seq\nnew heap\nmeld 1 2\n", 4, 6),
-    ("lazy 1\nnew seq\nnew heap\nmeld 2 1\n", 4, 7),
-    ("lazy 1\nnew seq\nnew heap\nconcat 1 2\n", 4, 7),
-    ("lazy 1\nnew seq\nsize 2\nqueue\n", 3, 5),
     ("lazy 1\nnew seq\nsplit 1 1\n", 3, 2),
     ("lazy 1\n@q new seq\n", 2, 2),
     ("lazy 1\nnew seq\nsize @q\n", 3, 4),
@@ -65,28 +34,67 @@ const FAULTY: [(&str, u32, u8); 81] = [
     ("lazy 3\nnew seq\npushl 1 000000000000000000001\n", 3, 4),
     ("lazy 3\nnew seq\nsize 18446744073709551615\n", 3, 5),
     ("lazy 2\nnew prio\ninsert 1 18446744073709551615\n", 3, 4),
-    ("lazy 2\nnew seq\n@A size 1\n", 3, 9),
-    ("lazy 2\nnew seq\n@ size 1\n", 3, 9),
-    ("lazy 2\nnew seq\n@q.1 size 1\n", 3, 9),
-    ("lazy 2\nnew seq\n@abcdefghijklmnop size 2\n", 3, 5),
-    ("lazy 2\nnew seq\n@abcdefghijklmnopq size 1\n", 3, 9),
-    ("lazy 2\n@q new seq\n@q size 1\n", 3, 9),
-    ("lazy 2\n@q new seq\n@q\n", 3, 9),
-    ("lazy 2\n@q new seq\n@r\n", 3, 3),
-    ("lazy 2\n@q new seq\n@r queue\n", 3, 2),
-    ("lazy 2\n@q new seq\n@r # remark\n", 3, 2),
-    ("lazy 2\n@q new seq\n@r @s size 1\n", 3, 2),
-    ("lazy 2\nnew seq\nsize @x\n", 3, 10),
-    ("lazy 2\nnew seq\n@x size @x\n", 3, 10),
-    ("lazy 2\n@x new seq\nsize @x.3\n", 3, 10),
-    ("lazy 2\n@x new seq\nsize @X\n", 3, 10),
     ("lazy 2\nnew seq\npushl @x 4294967296\n", 3, 4),
-    ("lazy 2\nnew seq\nconcat 9 @x\n", 3, 10),
-    ("lazy 2\nnew seq\nsize 1.2\n", 3, 11),
-    ("lazy 2\nnew seq\nhead 1.2\n", 3, 11),
-    ("lazy 2\nnew seq\nconcat 1.2 9\n", 3, 5),
-    ("lazy 2\nnew seq\nsize 2.2\n", 3, 5),
-    ("lazy 2\nnew seq\nsize 1.3\n", 3, 4),
+];
+
+// Faulty lines after a header, which are so in each form.
+const FAULTY_LINES: [(&str, u32, u8); 31] = [
+    ("queue\n", 2, 2),
+    ("New seq\n", 2, 2),
+    ("new\tseq\n", 2, 2),
+    ("new list\n", 2, 2),
+    ("new seq\r\n", 2, 2),
+    ("new seq\0", 2, 2),
+    ("new séq\n", 2, 2),
+    ("\u{a0}\n", 2, 2),
+    ("new\n", 2, 3),
+    ("new list list\n", 2, 3),
+    ("new seq # remark\n", 2, 3),
+    ("new seq\nsize\n", 3, 3),
+    ("new seq\nsize 1 1\n", 3, 3),
+    ("new seq\npushl 1\n", 3, 3),
+    ("new seq\nconcat 1 1 1\n", 3, 3),
+    ("new seq\nsize +1\n", 3, 4),
+    ("new seq\nsize -1\n", 3, 4),
+    ("new seq\nsize 1a\n", 3, 4),
+    ("new seq\nsize 1\t\n", 3, 4),
+    ("new seq\npushl 1 100000000000000000000000\n", 3, 4),
+    ("new seq\npushl 9 #\n", 3, 4),
+    ("new seq\nsize 0\n", 3, 5),
+    ("new seq\nsize 4294967295\n", 3, 5),
+    ("new seq\nconcat 1 2\n", 3, 5),
+    ("new bankq\nsnoc 2 5", 3, 5),
+    ("\n   \n#\n # remark\nsize 1\n", 6, 5),
+    ("new seq\nhead 1\n", 3, 6),
+    ("new seq\nnew heap\nmeld 1 2\n", 4, 6),
+    ("new seq\nnew heap\nmeld 2 1\n", 4, 7),
+    ("new seq\nnew heap\nconcat 1 2\n", 4, 7),
+    ("new seq\nsize 2\nqueue\n", 3, 5),
+];
+
+// Faulty labels and second versions after a header, which are so in the forms that have them.
+const FAULTY_LABELS: [(&str, u32, u8); 21] = [
+    ("new seq\n@A size 1\n", 3, 9),
+    ("new seq\n@ size 1\n", 3, 9),
+    ("new seq\n@q.1 size 1\n", 3, 9),
+    ("new seq\n@abcdefghijklmnop size 2\n", 3, 5),
+    ("new seq\n@abcdefghijklmnopq size 1\n", 3, 9),
+    ("@q new seq\n@q size 1\n", 3, 9),
+    ("@q new seq\n@q\n", 3, 9),
+    ("@q new seq\n@r\n", 3, 3),
+    ("@q new seq\n@r queue\n", 3, 2),
+    ("@q new seq\n@r # remark\n", 3, 2),
+    ("@q new seq\n@r @s size 1\n", 3, 2),
+    ("new seq\nsize @x\n", 3, 10),
+    ("new seq\n@x size @x\n", 3, 10),
+    ("@x new seq\nsize @x.3\n", 3, 10),
+    ("@x new seq\nsize @X\n", 3, 10),
+    ("new seq\nconcat 9 @x\n", 3, 10),
+    ("new seq\nsize 1.2\n", 3, 11),
+    ("new seq\nhead 1.2\n", 3, 11),
+    ("new seq\nconcat 1.2 9\n", 3, 5),
+    ("new seq\nsize 2.2\n", 3, 5),
+    ("new seq\nsize 1.3\n", 3, 4),
 ];
 
 // Every kind with every operation of its own.
@@ -255,6 +263,25 @@ fn faulty_texts_are_refused(rt: HostRuntime) {
             "{text}"
         );
     }
+}
+
+#[test]
+fn faulty_lines_are_refused_in_each_form(rt: HostRuntime) -> Result<(), Fail> {
+    for header in ["lazy 1\n", "lazy 2\n", "lazy 3\n"] {
+        for (lines, line, reason) in &FAULTY_LINES {
+            let text = format!(in rt.alloc(); "{header}{lines}")?;
+            let fault = fault_of(rt.alloc(), text.as_str().as_bytes());
+            assert_eq!(rt; fault, (*line, *reason), "{text}");
+        }
+    }
+    for header in ["lazy 2\n", "lazy 3\n"] {
+        for (lines, line, reason) in &FAULTY_LABELS {
+            let text = format!(in rt.alloc(); "{header}{lines}")?;
+            let fault = fault_of(rt.alloc(), text.as_str().as_bytes());
+            assert_eq!(rt; fault, (*line, *reason), "{text}");
+        }
+    }
+    Ok(())
 }
 
 #[test]

@@ -1,0 +1,11 @@
+use Rattle.std.proofs.Common.{◌≡◌, take, true}
+use Rattle.std.specs.Char.{is_ascii_digit}
+use Rattle.std.specs.List.{list_all}
+use Rattle.std.specs.Str.Parse.{digits_value}
+use Rattle.script_text.proofs.common_lines.leading_digits.Given as goal
+
+abbrev pub invariant-loop-i : goal.invariant-loop-i
+invariant-loop-i l = record {
+  value : l.value ≡ digits_value 10 (take l.i l.bytes);
+  all : list_all is_ascii_digit (take l.i l.bytes) ≡ true;
+}

@@ -1,0 +1,195 @@
+//! Lines as most are: the word of an operation, then its numbers or kind behind single spaces, then the line's end. They are
+//! read in one pass. A line that is written otherwise is left to the reader of any line.
+ghost use Rattle.std.specs.Prelude.{◌≡◌, ◌<◌, ◌≤◌, ◌++◌, ◌∷◌, codes, length, take, IfSome, true, false};
+ghost use Rattle.std.specs.Char.{is_ascii_digit};
+ghost use Rattle.std.specs.List.{list_all};
+ghost use Rattle.std.specs.Str.Parse.{digits_value};
+ghost use Rattle.lazy_rec.specs.Kinds.{is_split};
+ghost use Rattle.script_text.specs.Words.{op_word, op_syntax, kind_word};
+ghost use Rattle.script_text.specs.declared.words.Syntax.TheVariants.{Base, Argument, Other};
+ghost use Rattle.script_text.specs.Events.{said};
+ghost use Rattle.script_text.specs.Common.{IsNumberBefore, IsCommonEvent};
+
+use crate::event_lines::{event_of_new, on_base, on_two};
+use crate::lines::most_number;
+use crate::model::Form;
+use crate::script::Script;
+use crate::versions::Said;
+use lazy_rec::limits::MOST_EVENTS;
+use lazy_rec::{Event, Kind, Op};
+
+// An operation with an argument, whose word and a space begin the bytes, and what follows them. `split`, which form 1 lacks, isn't
+// looked for.
+#[inline(always)]
+fn with_argument(bytes: &[u8]) -> Option<(Op, &[u8])>
+    ensures word { IfSome result (λ r. bytes.entry.now ≡ op_word r.0 ++ 32 ∷ r.1.now) }
+    ensures syntax { IfSome result (λ r. op_syntax r.0 ≡ Argument r.0) }
+    ensures in_form { IfSome result (λ r. is_split r.0 ≡ false) }
+{
+    match bytes {
+        [b's', b'n', b'o', b'c', b' ', rest @ ..] => Some((Op::Snoc, rest)),
+        [b'c', b'o', b'n', b's', b' ', rest @ ..] => Some((Op::Cons, rest)),
+        [b'i', b'n', b's', b'e', b'r', b't', b' ', rest @ ..] => Some((Op::Insert, rest)),
+        [b'p', b'u', b's', b'h', b'l', b' ', rest @ ..] => Some((Op::Pushl, rest)),
+        [b'p', b'u', b's', b'h', b'r', b' ', rest @ ..] => Some((Op::Pushr, rest)),
+        [b'n', b't', b'h', b' ', rest @ ..] => Some((Op::Nth, rest)),
+        [b't', b'a', b'k', b'e', b' ', rest @ ..] => Some((Op::Take, rest)),
+        [b'd', b'r', b'o', b'p', b' ', rest @ ..] => Some((Op::Drop, rest)),
+        [b'h', b'a', b's', b' ', rest @ ..] => Some((Op::Has, rest)),
+        [b'r', b'e', b'm', b'o', b'v', b'e', b' ', rest @ ..] => Some((Op::Remove, rest)),
+        [b'u', b'p', b't', b'o', b' ', rest @ ..] => Some((Op::Upto, rest)),
+        _ => None,
+    }
+}
+
+// An operation with a base alone, whose word and a space begin the bytes, and what follows them.
+#[inline(always)]
+fn with_base(bytes: &[u8]) -> Option<(Op, &[u8])>
+    ensures word { IfSome result (λ r. bytes.entry.now ≡ op_word r.0 ++ 32 ∷ r.1.now) }
+    ensures syntax { IfSome result (λ r. op_syntax r.0 ≡ Base r.0) }
+    ensures in_form { IfSome result (λ r. is_split r.0 ≡ false) }
+{
+    match bytes {
+        [b'h', b'e', b'a', b'd', b' ', rest @ ..] => Some((Op::Head, rest)),
+        [b't', b'a', b'i', b'l', b' ', rest @ ..] => Some((Op::Tail, rest)),
+        [b's', b'i', b'z', b'e', b' ', rest @ ..] => Some((Op::Size, rest)),
+        [b'r', b'e', b'v', b'e', b'r', b's', b'e', b' ', rest @ ..] => Some((Op::Reverse, rest)),
+        [b'm', b'i', b'n', b' ', rest @ ..] => Some((Op::Min, rest)),
+        [b'd', b'e', b'l', b'm', b'i', b'n', b' ', rest @ ..] => Some((Op::Delmin, rest)),
+        [b'm', b'a', b'x', b' ', rest @ ..] => Some((Op::Max, rest)),
+        [b'd', b'e', b'l', b'm', b'a', b'x', b' ', rest @ ..] => Some((Op::Delmax, rest)),
+        [b'p', b'o', b'p', b'l', b' ', rest @ ..] => Some((Op::Popl, rest)),
+        [b'p', b'o', b'p', b'r', b' ', rest @ ..] => Some((Op::Popr, rest)),
+        [b'f', b'i', b'r', b's', b't', b' ', rest @ ..] => Some((Op::First, rest)),
+        [b'l', b'a', b's', b't', b' ', rest @ ..] => Some((Op::Last, rest)),
+        _ => None,
+    }
+}
+
+// An operation with two bases, whose word and a space begin the bytes, and what follows them.
+#[inline(always)]
+fn with_other(bytes: &[u8]) -> Option<(Op, &[u8])>
+    ensures word { IfSome result (λ r. bytes.entry.now ≡ op_word r.0 ++ 32 ∷ r.1.now) }
+    ensures syntax { IfSome result (λ r. op_syntax r.0 ≡ Other r.0) }
+    ensures in_form { IfSome result (λ r. is_split r.0 ≡ false) }
+{
+    match bytes {
+        [b'a', b'p', b'p', b'e', b'n', b'd', b' ', rest @ ..] => Some((Op::Append, rest)),
+        [b'm', b'e', b'l', b'd', b' ', rest @ ..] => Some((Op::Meld, rest)),
+        [b'c', b'o', b'n', b'c', b'a', b't', b' ', rest @ ..] => Some((Op::Concat, rest)),
+        _ => None,
+    }
+}
+
+// What follows `new` and a space at the beginning.
+#[inline(always)]
+fn after_new(bytes: &[u8]) -> Option<&[u8]>
+    ensures { IfSome result (λ r. bytes.entry.now ≡ codes "new" ++ 32 ∷ r.now) }
+{
+    match bytes {
+        [b'n', b'e', b'w', b' ', rest @ ..] => Some(rest),
+        _ => None,
+    }
+}
+
+// The kind whose word and a line's end begin the bytes, and what follows them.
+#[inline(always)]
+fn kind_before_end(bytes: &[u8]) -> Option<(Kind, &[u8])>
+    ensures { IfSome result (λ r. bytes.entry.now ≡ kind_word r.0 ++ 10 ∷ r.1.now) }
+{
+    match bytes {
+        [b's', b't', b'r', b'e', b'a', b'm', b'\n', rest @ ..] => Some((Kind::Stream, rest)),
+        [b'b', b'a', b'n', b'k', b'q', b'\n', rest @ ..] => Some((Kind::Bankq, rest)),
+        [b'r', b't', b'q', b'\n', rest @ ..] => Some((Kind::Rtq, rest)),
+        [b'h', b'e', b'a', b'p', b'\n', rest @ ..] => Some((Kind::Heap, rest)),
+        [b's', b'e', b'q', b'\n', rest @ ..] => Some((Kind::Seq, rest)),
+        [b'p', b'r', b'i', b'o', b'\n', rest @ ..] => Some((Kind::Prio, rest)),
+        [b'o', b'r', b'd', b'\n', rest @ ..] => Some((Kind::Ord, rest)),
+        [b'c', b'a', b't', b'\n', rest @ ..] => Some((Kind::Cat, rest)),
+        _ => None,
+    }
+}
+
+// The value of the digits that bytes begin with, and how many they are.
+#[inline(always)]
+fn leading_digits(bytes: &[u8]) -> (u64, usize)
+    requires few { length bytes.now ≤ 10 }
+    ensures within { result.1 ≤ length bytes.now }
+    ensures digits { list_all is_ascii_digit (take result.1 bytes.now) ≡ true }
+    ensures value { result.0 ≡ digits_value 10 (take result.1 bytes.now) }
+{
+    let mut value = 0;
+    for (i, digit) in bytes.iter().enumerate() {
+        let worth = u64::from(*digit).wrapping_sub(48);
+        if worth > 9 {
+            return (value, i);
+        }
+        value = value * 10 + worth;
+    }
+    (value, bytes.len())
+}
+
+// The number of at most ten digits that bytes begin with, where this byte stands behind it, and what follows that byte.
+#[inline(always)]
+fn number_before(form: Form, bytes: &[u8], end: u8) -> Option<(u64, &[u8])>
+    ensures { IfSome result (λ r. IsNumberBefore form bytes.entry.now end r.0 r.1.now) }
+{
+    if bytes.len() <= 10 {
+        return None;
+    }
+    let (value, count) = leading_digits(&bytes[..10]);
+    if count == 0 || value > most_number(form) {
+        return None;
+    }
+    match &bytes[count..] {
+        [first, rest @ ..] if *first == end => Some((value, rest)),
+        _ => None,
+    }
+}
+
+// The first version of an event.
+#[inline(always)]
+fn first_of(name: u64) -> Said
+    ensures { result ≡ said false name }
+{
+    Said {
+        name,
+        second: false,
+    }
+}
+
+/// The event of the first line and the bytes after the line, where the line is as most are and its event may stand next.
+#[inline(always)]
+pub fn common_event<'a>(before: &Script, bytes: &'a [u8]) -> Option<(Event, &'a [u8])>
+    ensures { IfSome result (λ r. IsCommonEvent before.now bytes.entry.now r.0 r.1.now) }
+{
+    if before.count() >= MOST_EVENTS as usize {
+        return None;
+    }
+    let form = before.form_of();
+    if let Some((op, rest)) = with_argument(bytes) {
+        let (base, more) = number_before(form, rest, b' ')?;
+        let (arg, after) = number_before(form, more, b'\n')?;
+        let Ok(event) = on_base(before, op, first_of(base), arg) else {
+            return None;
+        };
+        return Some((event, after));
+    }
+    if let Some((op, rest)) = with_base(bytes) {
+        let (base, after) = number_before(form, rest, b'\n')?;
+        let Ok(event) = on_base(before, op, first_of(base), 0) else {
+            return None;
+        };
+        return Some((event, after));
+    }
+    if let Some((op, rest)) = with_other(bytes) {
+        let (base, more) = number_before(form, rest, b' ')?;
+        let (other, after) = number_before(form, more, b'\n')?;
+        let Ok(event) = on_two(before, op, first_of(base), first_of(other)) else {
+            return None;
+        };
+        return Some((event, after));
+    }
+    let (kind, after) = kind_before_end(after_new(bytes)?)?;
+    Some((event_of_new(kind), after))
+}
