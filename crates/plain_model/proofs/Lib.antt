@@ -4,3 +4,5 @@ pub mod Growth
 pub mod RunSteps
 pub mod LawLemmas
 pub mod RisingKinds
+pub mod Standing
+pub mod ScriptSteps

@@ -1,3 +1,4 @@
 pub mod Outcome
 pub mod Versions
 pub mod Laws
+pub mod Scripts

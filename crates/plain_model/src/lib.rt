@@ -5,7 +5,9 @@ mod effects;
 pub mod laws;
 mod lists;
 mod runs;
+mod scripts;
 #[cfg(test)]
 mod tests;
 
 pub use runs::plain_run;
+pub use scripts::is_script;

@@ -3,7 +3,8 @@
 ghost use Rattle.std.specs.Prelude.{◌≡◌, IfOk, map};
 ghost use Rattle.lazy_rec.specs.History.{IsScript};
 
-use crate::plain_run;
+use crate::{is_script, plain_run};
+use lazy_rec::limits::MOST_EVENTS;
 use lazy_rec::{Event, Kind, Op, Reply};
 use std::alloc::{AllocError, Global};
 use std::process::Abort;
@@ -442,4 +443,83 @@ fn splits_and_wide_items(rt: HostRuntime) -> Result<(), Fail> {
     compare(&rt, rt.alloc(), CUTS)?;
     compare(&rt, rt.alloc(), WIDE_ITEMS)?;
     Ok(())
+}
+
+/// Rows of a table: an operation, its base, its other and its argument.
+macro_rules! events {
+    ($($op:ident $(($kind:ident))? $base:literal $other:literal $arg:literal),* $(,)?) => {
+        [$(Event { op: Op::$op $((Kind::$kind))?, base: $base, other: $other, arg: $arg }),*]
+    };
+}
+
+/// Asks whether events make a script.
+fn is_it(rt: &impl Abort, alloc: Global, events: &[Event], wanted: bool) -> Result<(), Fail> {
+    let is = is_script(alloc, events)?;
+    assert_eq!(rt; is, wanted);
+    Ok(())
+}
+
+#[test]
+fn scripts_and_others(rt: HostRuntime) -> Result<(), Fail> {
+    let alloc = rt.alloc();
+    is_it(&rt, alloc, &events![], true)?;
+    is_it(
+        &rt,
+        alloc,
+        &events![New(Seq) 0 0 0, Pushr 1 0 5, Split 2 0 1, Concat 2147483651 3 0, Size 4 0 0],
+        true,
+    )?;
+    is_it(
+        &rt,
+        alloc,
+        &events![New(Heap) 0 0 0, New(Seq) 0 0 0, Insert 1 0 5, Meld 1 3 0],
+        true,
+    )?;
+    // a field that isn't used is not 0: the base, the other, the argument
+    is_it(&rt, alloc, &events![New(Seq) 0 0 0, New(Seq) 1 0 0], false)?;
+    is_it(&rt, alloc, &events![New(Seq) 0 0 0, Size 1 1 0], false)?;
+    is_it(&rt, alloc, &events![New(Seq) 0 0 0, Size 1 0 1], false)?;
+    // no smaller name: none, the event's own, a later one, as the other
+    is_it(&rt, alloc, &events![New(Seq) 0 0 0, Size 0 0 0], false)?;
+    is_it(&rt, alloc, &events![New(Seq) 0 0 0, Size 2 0 0], false)?;
+    is_it(
+        &rt,
+        alloc,
+        &events![New(Seq) 0 0 0, Size 3 0 0, New(Seq) 0 0 0],
+        false,
+    )?;
+    is_it(&rt, alloc, &events![New(Seq) 0 0 0, Concat 1 2 0], false)?;
+    // the kind hasn't the operation, and two kinds that both have it
+    is_it(&rt, alloc, &events![New(Seq) 0 0 0, Insert 1 0 5], false)?;
+    is_it(
+        &rt,
+        alloc,
+        &events![New(Heap) 0 0 0, New(Prio) 0 0 0, Meld 1 2 0],
+        false,
+    )?;
+    // a second version of an event that is no split, and of none
+    is_it(
+        &rt,
+        alloc,
+        &events![New(Seq) 0 0 0, Pushr 1 0 5, Size 2147483650 0 0],
+        false,
+    )?;
+    is_it(
+        &rt,
+        alloc,
+        &events![New(Seq) 0 0 0, Size 2147483648 0 0],
+        false,
+    )
+}
+
+#[test]
+fn most_events(rt: HostRuntime) -> Result<(), Fail> {
+    let alloc = rt.alloc();
+    let mut events = Vec::new(alloc);
+    for _ in 0..MOST_EVENTS {
+        events.push(events![New(Cat) 0 0 0][0])?;
+    }
+    is_it(&rt, alloc, events.as_slice(), true)?;
+    events.push(events![New(Cat) 0 0 0][0])?;
+    is_it(&rt, alloc, events.as_slice(), false)
 }
