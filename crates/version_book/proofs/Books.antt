@@ -1,10 +1,9 @@
 -- Events that are run in order: what holds after so many of them, and the book in the end.
 use mathlib.Core.Path.{fun_ext}
-use Rattle.std.proofs.Common.{◌≡◌, ℕ, zero, suc, ◌+◌, ◌^◌, ◌<◌, ◌≤◌, Bool, true, false, ◌&&◌, Option, Some, None, List, [], ◌∷◌, length, refl, sym, ap, ◌∙◌, arith, subst, ⊎_elim}
+use Rattle.std.proofs.Common.{◌≡◌, ℕ, zero, suc, ◌+◌, ◌^◌, ◌<◌, ◌≤◌, Bool, true, false, ◌&&◌, Option, Some, None, List, length, refl, sym, ap, ◌∙◌, arith, subst, ⊎_elim}
 use Rattle.std.specs.Prelude.{option_map}
-use Rattle.std.specs.List.{list_all}
 use Rattle.std.proofs.lemmas.Option.{slice_get_past}
-use Rattle.std.proofs.lemmas.Bool.{and_parts, cases_eq, cases_lt, lt-ltb}
+use Rattle.std.proofs.lemmas.Bool.{true≢false, cases_eq, cases_lt, lt-ltb}
 use Rattle.lazy_rec.specs.declared.events.Kind.{Kind}
 use Rattle.lazy_rec.specs.declared.events.Event.{Event}
 use Rattle.lazy_rec.specs.Tests.{is_some_and, implies}
@@ -22,15 +21,20 @@ use Rattle.heap_store.specs.Growth.{Grows, begun_of}
 use Rattle.heap_store.specs.Legal.{IsLegal}
 use Rattle.heap_store.specs.Budget.{direct_at, room_of}
 use Rattle.heap_store.specs.Causes.{HasCause}
-use Rattle.heap_store.proofs.CauseLaws.{cause_kept}
+use Rattle.heap_store.proofs.CauseLaws.{cause_kept, total_nodes_grows}
+use Rattle.heap_store.proofs.RowBudget.{room_rises}
 use Rattle.heap_store.proofs.RoomLaws.{quiet_all, closed_steps, closed_places}
 use Rattle.heap_store.proofs.PlainLists.{length-filled}
 use Rattle.lazy_rec.proofs.HistoryLaws.{smaller-lt, smaller-pos, base-low, stands, kind_is, kind_of_agree}
 use Rattle.heap_store.proofs.ShowLaws.{one_value}
-use Rattle.version_book.specs.Closed.{AreQueues, IsBook, IsBounded, IsRefusal, IsWhole}
+use Rattle.kind_table.specs.Kinds.{is_built, AreBuilt}
+use Rattle.version_book.specs.Closed.{IsBook, IsBounded, IsRefusal, IsWhole}
+use Rattle.version_book.specs.Pass.{Pass, pass_of}
 use Rattle.version_book.proofs.Rooms.{room_fits}
-use Rattle.version_book.specs.Running.{IsIdle, ComesNext, Ran}
-use Rattle.version_book.proofs.Events.{numbers_grow}
+use Rattle.version_book.proofs.InOrder.{all_up}
+use Rattle.version_book.specs.RowSteps.{IsCaller}
+use Rattle.version_book.specs.Calls.{IsIdle}
+use Rattle.version_book.specs.Solo.{IsSolo, ComesNext, Ran}
 
 -- ---- what holds after so many events
 
@@ -42,6 +46,14 @@ pub record IsRun (nodes : ℕ) (w : World) (events : List Event) (j : ℕ) (r : 
   pub numbers : (drawn wanted : ℕ) → r.ending ≡ full drawn wanted → IsRefusal w nodes drawn wanted
   pub cause : HasCause w (direct_at w j) r.ending
 
+-- the numbers of a full row stay right as the world grows
+numbers_grow : {a b : World} → IsLegal a → IsLegal b → Grows a b → {capacity drawn wanted : ℕ} → IsRefusal a capacity drawn wanted → IsRefusal b capacity drawn wanted
+numbers_grow {a} {b} legal legal' g n = record {
+  no_room = n.no_room;
+  there = omega (arith, n.there, total_nodes_grows g);
+  within = omega (arith, n.within, room_rises a b legal legal' g.ended g.begun);
+}
+
 -- it stays so as the world grows
 run_grows : {a b : World} {nodes : ℕ} {events : List Event} {j : ℕ} {r : Row} → IsLegal a → IsLegal b → Grows a b → row_at a j ≡ Some r → row_at b j ≡ Some r → IsRun nodes a events j r → IsRun nodes b events j r
 run_grows {a} {b} {nodes} {events} {j} {r} legal legal' g was now h = record {
@@ -52,16 +64,18 @@ run_grows {a} {b} {nodes} {events} {j} {r} legal legal' g was now h = record {
   cause = cause_kept legal legal' g j (ap (option_and_then begun_of) (was ∙ sym now)) r.ending h.cause;
 }
 
-pub record AreRun (nodes : ℕ) (events : List Event) (i : ℕ) (v : View) : Type 0 where
-  pub idle : IsIdle v
-  pub named : v.named ≡ i
-  pub capacity : v.about.capacity ≡ nodes
-  pub rows : v.about.rows ≡ length events
-  pub rows_are : (j : ℕ) → 1 ≤ j → j ≤ i → (r : Row) × (row_at v.seen j ≡ Some r) × IsRun nodes v.seen events j r
+pub record AreRun (nodes : ℕ) (events : List Event) (i : ℕ) (p : Pass) : Type 0 where
+  pub solo : IsSolo p
+  pub lawful : IsLawfulView p.view
+  pub named : p.view.named ≡ i
+  pub capacity : p.view.about.capacity ≡ nodes
+  pub rows : p.view.about.rows ≡ length events
+  pub rows_are : (j : ℕ) → 1 ≤ j → j ≤ i → (r : Row) × (row_at p.view.seen j ≡ Some r) × IsRun nodes p.view.seen events j r
 
-pub none-run : (nodes : ℕ) (events : List Event) → AreRun nodes events 0 (opened_view nodes (length events))
-none-run nodes events = record {
-  idle = record { own = record { alone = refl; plan = refl; caller = refl; claims = refl }; open_rows = refl; reserved = refl };
+pub none-run : (nodes : ℕ) (events : List Event) → IsLawfulView (opened_view nodes (length events)) → AreRun nodes events 0 (pass_of (opened_view nodes (length events)) 0)
+none-run nodes events law = record {
+  solo = record { alone = refl; plan = refl; caller = refl };
+  lawful = law;
   named = refl;
   capacity = refl;
   rows = refl;
@@ -70,62 +84,58 @@ none-run nodes events = record {
 
 -- ---- what an event says of smaller names, by the events or by the rows
 
-all_up : (s f g : ℕ → Bool) (xs : List ℕ) → ((v : ℕ) → s v ≡ true → f v ≡ true → g v ≡ true) → list_all s xs ≡ true → list_all f xs ≡ true → list_all g xs ≡ true
-all_up s f g [] up h k = refl
-all_up s f g (x ∷ xs) up h k =
-    let p = and_parts (s x) (list_all s xs) h in
-    let q = and_parts (f x) (list_all f xs) k in
-    rw (up x p.0 q.0, all_up s f g xs up p.1 q.1) refl
-
 abbrev kind_test : Event → Option Kind → Option Kind → Bool
 kind_test e z o = is_some_and (λ k. belongs k e.op && is_some_and (same_kind k) z) o
 
 abbrev named_test : ℕ → Option Event → Bool
 named_test v o = implies (is_second v) (is_some_and (λ (e : Event). is_split e.op) o)
 
-module _ (nodes : ℕ) (events : List Event) (script : IsScript events) (queues : AreQueues events) (i : ℕ) (v : View) (h : AreRun nodes events i v) where
-  events_same : (k : ℕ) → k ≤ i → event_of events k ≡ events_of (row_at v.seen) k
+module _ (nodes : ℕ) (events : List Event) (script : IsScript events) (built : AreBuilt events) (i : ℕ) (p : Pass) (h : AreRun nodes events i p) where
+  events_same : (k : ℕ) → k ≤ i → event_of events k ≡ events_of (row_at p.view.seen) k
   events_same zero l = refl
   events_same (suc k) l =
       let t = h.rows_are (suc k) (omega arith) l in
       t.2.event ∙ sym (ap (option_map (λ (r : Row). r.event)) t.1)
 
-  kinds_same : (k : ℕ) → k ≤ i → kind_of (event_of events) k ≡ kind_of (events_of (row_at v.seen)) k
-  kinds_same k l = kind_of_agree (event_of events) (events_of (row_at v.seen)) k (λ p m. events_same p (omega (arith, m, l)))
+  kinds_same : (k : ℕ) → k ≤ i → kind_of (event_of events) k ≡ kind_of (events_of (row_at p.view.seen)) k
+  kinds_same k l = kind_of_agree (event_of events) (events_of (row_at p.view.seen)) k (λ n m. events_same n (omega (arith, m, l)))
 
   low : (u : ℕ) → is_smaller (suc i) u ≡ true → event_name u ≤ i
   low u b = let l = smaller-lt (suc i) u b in omega (arith, l)
 
-  ended_there : (u : ℕ) → is_smaller (suc i) u ≡ true → is_ended_at (row_at v.seen) (event_name u) ≡ true
+  ended_there : (u : ℕ) → is_smaller (suc i) u ≡ true → is_ended_at (row_at p.view.seen) (event_name u) ≡ true
   ended_there u b =
       let t = h.rows_are (event_name u) (let q = smaller-pos (suc i) u b in omega (arith, q)) (low u b) in
       rw t.1 t.2.ended
 
-  pub comes-next : (e : Event) → event_of events (suc i) ≡ Some e → i < length events → ComesNext v e
+  pub comes-next : (e : Event) → event_of events (suc i) ≡ Some e → i < length events → ComesNext p e
   comes-next e here more =
       let t = stands (event_of events) (suc i) e (script.each (suc i) e here) in
       let base = base-low (suc i) e (omega arith) t.trim t.smaller in
-      let name : suc i ≡ v.named + 1 = omega (arith, h.named) in
+      let name : suc i ≡ p.view.named + 1 = omega (arith, h.named) in
       let kind = kinds_same (event_name e.base) (omega (arith, base)) in
       record {
         room = omega (arith, h.named, h.rows, more);
-        next = record { trim = t.trim; smaller = subst (λ z. has_smaller_bases z e ≡ true) name t.smaller; argument = lt-ltb e.arg (2 ^ 64) t.argument };
-        ended = all_up (is_smaller (suc i)) (is_smaller (suc i)) (λ u. is_ended_at (row_at v.seen) (event_name u)) (bases e) (λ u b _. ended_there u b) t.smaller t.smaller;
-        seconds = all_up (is_smaller (suc i)) (λ u. named_test u (event_of events (event_name u))) (λ u. named_test u (events_of (row_at v.seen) (event_name u))) (bases e)
+        trim = t.trim;
+        smaller = subst (λ z. has_smaller_bases z e ≡ true) name t.smaller;
+        argument = lt-ltb e.arg (2 ^ 64) t.argument;
+        ended = all_up (is_smaller (suc i)) (is_smaller (suc i)) (λ u. is_ended_at (row_at p.view.seen) (event_name u)) (bases e) (λ u b _. ended_there u b) t.smaller t.smaller;
+        seconds = all_up (is_smaller (suc i)) (λ u. named_test u (event_of events (event_name u))) (λ u. named_test u (events_of (row_at p.view.seen) (event_name u))) (bases e)
             (λ u b k. subst (λ o. named_test u o ≡ true) (events_same (event_name u) (low u b)) k) t.smaller t.seconds;
-        kinds = all_up (is_smaller (suc i)) (λ u. kind_test e (kind_of (event_of events) (event_name e.base)) (kind_of (event_of events) (event_name u))) (λ u. kind_test e (kind_of (events_of (row_at v.seen)) (event_name e.base)) (kind_of (events_of (row_at v.seen)) (event_name u))) (bases e)
-            (λ u b k. subst (λ z. kind_test e z (kind_of (events_of (row_at v.seen)) (event_name u)) ≡ true) kind (subst (λ z. kind_test e (kind_of (event_of events) (event_name e.base)) z ≡ true) (kinds_same (event_name u) (low u b)) k))
+        kinds = all_up (is_smaller (suc i)) (λ u. kind_test e (kind_of (event_of events) (event_name e.base)) (kind_of (event_of events) (event_name u))) (λ u. kind_test e (kind_of (events_of (row_at p.view.seen)) (event_name e.base)) (kind_of (events_of (row_at p.view.seen)) (event_name u))) (bases e)
+            (λ u b k. subst (λ z. kind_test e z (kind_of (events_of (row_at p.view.seen)) (event_name u)) ≡ true) kind (subst (λ z. kind_test e (kind_of (event_of events) (event_name e.base)) z ≡ true) (kinds_same (event_name u) (low u b)) k))
             t.smaller t.kinds;
-        queue = ap (new_kind e.op) (sym kind) ∙ sym (kind_is (event_of events) (suc i) e here t.smaller) ∙ queues (suc i) e here;
+        built = subst (λ o. is_some_and (λ k. is_built k e.op) o ≡ true) (kind_is (event_of events) (suc i) e here t.smaller ∙ ap (new_kind e.op) kind) (built (suc i) e here);
       }
 
-  pub one-more : IsLawfulView v → (w : View) → IsLawfulView w → (e : Event) (n : ℕ) → n ≡ suc i → event_of events (suc i) ≡ Some e → Ran v w e → AreRun nodes events n w
-  one-more law w law' e n n_is here ran = record {
-    idle = ran.idle;
+  pub one-more : (q : Pass) → IsLawfulView q.view → (e : Event) (n : ℕ) → n ≡ suc i → event_of events (suc i) ≡ Some e → Ran p q e → AreRun nodes events n q
+  one-more q law' e n n_is here ran = record {
+    solo = record { alone = rw ran.about h.solo.alone; plan = rw ran.about h.solo.plan; caller = ran.caller ∙ h.solo.caller };
+    lawful = law';
     named = omega (arith, ran.named, h.named, n_is);
     capacity = ap (λ (a : About). a.capacity) ran.about ∙ h.capacity;
     rows = ap (λ (a : About). a.rows) ran.about ∙ h.rows;
-    rows_are = λ j low high. ⊎_elim (new j) (old j low high) (cases_eq j (v.named + 1));
+    rows_are = λ j low high. ⊎_elim (new j) (old j low high) (cases_eq j (p.view.named + 1));
   }
     where
       within : (j n i : ℕ) → j ≤ n → n ≡ suc i → (j ≡ suc i → ⊥) → j ≤ i
@@ -134,35 +144,41 @@ module _ (nodes : ℕ) (events : List Event) (script : IsScript events) (queues 
       before : (j n i m : ℕ) → (j ≡ m + 1 → ⊥) → j ≤ n → n ≡ suc i → m ≡ i → j ≤ i
       before j n i m ne high a b = ⊎_elim (λ (eq : j ≡ suc i). absurd (ne (omega (arith, eq, b)))) (λ ne2. within j n i high a ne2) (cases_eq j (suc i))
 
-      new : (j : ℕ) → j ≡ v.named + 1 → (r : Row) × (row_at w.seen j ≡ Some r) × IsRun nodes w.seen events j r
+      new : (j : ℕ) → j ≡ p.view.named + 1 → (r : Row) × (row_at q.view.seen j ≡ Some r) × IsRun nodes q.view.seen events j r
       new j eq =
           let name : j ≡ suc i = omega (arith, eq, h.named) in (
             ran.row,
-            ap (row_at w.seen) eq ∙ ran.here,
+            ap (row_at q.view.seen) eq ∙ ran.here,
             record {
               event = ap (event_of events) name ∙ here ∙ ap (λ (x : Event). Some x) (sym ran.event);
-              caller = ran.caller;
+              caller = ran.caller_is ∙ h.solo.caller;
               ended = ran.ended;
-              numbers = λ d k f. subst (λ z. IsRefusal w.seen z d k) h.capacity (ran.numbers d k f);
-              cause = subst (λ z. HasCause w.seen (direct_at w.seen z) ran.row.ending) (sym eq) ran.cause;
+              numbers = λ d k f. subst (λ z. IsRefusal q.view.seen z d k) h.capacity (ran.numbers d k f);
+              cause = subst (λ z. HasCause q.view.seen (direct_at q.view.seen z) ran.row.ending) (sym eq) ran.cause;
             },
           )
 
-      old : (j : ℕ) → 1 ≤ j → j ≤ n → (j ≡ v.named + 1 → ⊥) → (r : Row) × (row_at w.seen j ≡ Some r) × IsRun nodes w.seen events j r
+      old : (j : ℕ) → 1 ≤ j → j ≤ n → (j ≡ p.view.named + 1 → ⊥) → (r : Row) × (row_at q.view.seen j ≡ Some r) × IsRun nodes q.view.seen events j r
       old j low high ne =
-          let t = h.rows_are j low (before j n i v.named ne high n_is h.named) in
-          (t.0, ran.others j ne ∙ t.1, run_grows law.legal law'.legal ran.grows t.1 (ran.others j ne ∙ t.1) t.2)
+          let t = h.rows_are j low (before j n i p.view.named ne high n_is h.named) in
+          (t.0, ran.others j ne ∙ t.1, run_grows h.lawful.legal law'.legal ran.grows t.1 (ran.others j ne ∙ t.1) t.2)
 
 -- ---- the book in the end
 
 rows_length : (h : PlainHeap) → length (view_of h).seen.rows ≡ (view_of h).about.rows
 rows_length h = length-filled no_words h.row_capacity h.rows.items h.plain.rows_fit
 
-module _ (nodes : ℕ) (events : List Event) (i : ℕ) (v : View) (law : IsLawfulView v) (all : length v.seen.rows ≡ v.about.rows) (h : AreRun nodes events i v) (last : i ≡ length events) where
+module _ (nodes : ℕ) (events : List Event) (i : ℕ) (p : Pass) (idle : IsIdle p.view) (all : length p.view.seen.rows ≡ p.view.about.rows) (h : AreRun nodes events i p) (last : i ≡ length events) where
+  abbrev v : View
+  v = p.view
+
+  abbrev law : IsLawfulView p.view
+  law = h.lawful
+
   row_there : (j : ℕ) (r : Row) → row_at v.seen j ≡ Some r → IsRun nodes v.seen events j r
   row_there zero r e = cc
   row_there (suc k) r e = ⊎_elim
-      (λ l. (let z : None ≡ Some r = sym (law.unnamed h.idle.own.alone (suc k) l) ∙ e in cc))
+      (λ l. (let z : None ≡ Some r = sym (law.unnamed h.solo.alone (suc k) l) ∙ e in cc))
       (λ l. (let t = h.rows_are (suc k) (omega arith) (omega (arith, l, h.named)) in
       subst (IsRun nodes v.seen events (suc k)) (one_value t.0 r (sym t.1 ∙ e)) t.2))
       (cases_lt v.named (suc k))
@@ -173,7 +189,7 @@ module _ (nodes : ℕ) (events : List Event) (i : ℕ) (v : View) (law : IsLawfu
       lawful = law.world;
       legal = law.legal;
       roots = law.roots;
-      unclaimed = quiet_all v law h.idle.own.alone h.idle.own.claims;
+      unclaimed = quiet_all v law h.solo.alone idle.claims;
       readable = λ j low high. (let t = h.rows_are j low (omega (arith, high, all, h.rows, last)) in record {
         row = t.0;
         here = t.1;
@@ -183,6 +199,7 @@ module _ (nodes : ℕ) (events : List Event) (i : ℕ) (v : View) (law : IsLawfu
       });
     };
     named = omega (arith, all, h.rows, h.named, last);
+    paid = record { steps = closed_steps v law h.solo.alone idle.claims; places = closed_places v law h.solo.alone idle.claims };
   }
 
   -- the rows have the events of the list, and there is none beside
@@ -190,7 +207,7 @@ module _ (nodes : ℕ) (events : List Event) (i : ℕ) (v : View) (law : IsLawfu
   events_there zero = refl
   events_there (suc k) = ⊎_elim
       (λ l. (let past : event_of events (suc k) ≡ None = slice_get_past events k (omega arith) in
-      ap (option_map (λ (r : Row). r.event)) (law.unnamed h.idle.own.alone (suc k) l) ∙ sym past))
+      ap (option_map (λ (r : Row). r.event)) (law.unnamed h.solo.alone (suc k) l) ∙ sym past))
       (λ l. (let t = h.rows_are (suc k) (omega arith) (omega (arith, l, h.named)) in
       ap (option_map (λ (r : Row). r.event)) t.1 ∙ sym t.2.event))
       (cases_lt v.named (suc k))
@@ -200,8 +217,8 @@ module _ (nodes : ℕ) (events : List Event) (i : ℕ) (v : View) (law : IsLawfu
 
   bounded : IsBounded v.seen nodes events
   bounded = record {
-    steps = closed_steps v law h.idle.own.alone h.idle.own.claims;
-    places = closed_places v law h.idle.own.alone h.idle.own.claims;
+    steps = closed_steps v law h.solo.alone idle.claims;
+    places = closed_places v law h.solo.alone idle.claims;
     room = within_room;
     never_full = λ fits j r e. never r.ending (λ d k f. (let n = (row_there j r e).numbers d k f in absurd (omega (arith, fits, within_room, n.no_room, n.within))));
   }
@@ -222,8 +239,22 @@ module _ (nodes : ℕ) (events : List Event) (i : ℕ) (v : View) (law : IsLawfu
     bounded = bounded;
   }
 
-pub book-of : (nodes : ℕ) (events : List Event) (h : PlainHeap) (i : ℕ) → AreRun nodes events i (view_of h) → i ≡ length events → IsBook (view_of h).seen nodes events
-book-of nodes events h i a last = is_book nodes events i (view_of h) h.law (rows_length h) a last
+module _ (nodes : ℕ) (events : List Event) (h : PlainHeap) (i : ℕ) (p : Pass) (same : view_of h ≡ p.view) (idle : IsIdle (view_of h)) (a : AreRun nodes events i p) (last : i ≡ length events) where
+  all_rows : length p.view.seen.rows ≡ p.view.about.rows
+  all_rows = subst (λ (v : View). length v.seen.rows ≡ v.about.rows) same (rows_length h)
 
-pub whole-of : (nodes : ℕ) (events : List Event) (h : PlainHeap) (i : ℕ) → AreRun nodes events i (view_of h) → i ≡ length events → IsWhole (view_of h)
-whole-of nodes events h i a last = is_whole nodes events i (view_of h) h.law (rows_length h) a last
+  idle_is : IsIdle p.view
+  idle_is = subst IsIdle same idle
+
+  pub book-of : IsBook (view_of h).seen nodes events
+  book-of = subst (λ (v : View). IsBook v.seen nodes events) (sym same) (is_book nodes events i p idle_is all_rows a last)
+
+  pub whole-of : IsWhole (view_of h)
+  whole-of = subst IsWhole (sym same) (is_whole nodes events i p idle_is all_rows a last)
+
+-- nothing is in hand of a store that was just opened
+pub opened_idle : (nodes rows : ℕ) → IsIdle (opened_view nodes rows)
+opened_idle nodes rows = record { claims = refl; open_rows = refl; reserved = refl; vain = refl; unused = λ i j held. absurd (true≢false (sym held)) }
+
+pub opened_caller : (nodes rows : ℕ) → IsCaller (opened_view nodes rows) 0
+opened_caller nodes rows = record { small = omega arith; own = λ c z. cc }

@@ -5,6 +5,7 @@ use Rattle.std.proofs.lemmas.Bool.{true≢false}
 use Rattle.std.proofs.lemmas.List.{get_or_past, take_all}
 use Rattle.std.proofs.lemmas.List.Sums.{sum_by-cons, sum_by_more}
 use Rattle.lazy_rec.specs.declared.events.Kind.{Kind}
+use Rattle.lazy_rec.specs.declared.events.Op.{Op}
 use Rattle.lazy_rec.specs.declared.events.Op.TheVariants as ops
 use Rattle.lazy_rec.specs.declared.events.Event.{Event}
 use Rattle.lazy_rec.specs.Tests.{is_some_and}
@@ -73,6 +74,10 @@ no_version w n l = sym (ap (λ ws. option_and_then (λ (r : Row). version_of n r
 
 pub no_name : (w : World) (n : ℕ) → event_name n ≡ 0 → None ≡ version_at (row_at w) n
 no_name w n e = sym (ap (λ i. option_and_then (λ (r : Row). version_of n r.ending) (row_at w i)) e)
+
+pub not_new : (op : Op) → ((k : Kind) → op ≡ ops.New k → ⊥) → uses_base op ≡ true
+not_new (ops.New k) h = absurd (h k refl)
+not_new _ h = refl
 
 pub not_unbegun : (b : Bool) → not b ≡ false → b ≡ true
 not_unbegun true h = refl
@@ -208,16 +213,16 @@ place_counted places charged p t o l e steps given_up h = by o e steps given_up 
 -- ---- a store of one thread
 
 pub node_length : (h : PlainHeap) → length (view_of h).seen.nodes ≡ fixed_places + h.capacity
-node_length h = length-filled None (fixed_places + h.capacity) h.nodes.items h.plain.fits
+node_length h = length-filled None (fixed_places + h.capacity) h.nodes.shown h.plain.fits
 
 pub row_length : (h : PlainHeap) → length (view_of h).seen.rows ≡ h.row_capacity
 row_length h = length-filled no_words h.row_capacity h.rows.items h.plain.rows_fit
 
 -- past the drawn places nothing is published
-all_counted : (h : PlainHeap) (f : Option Node → ℕ) → f None ≡ 0 → (n : ℕ) → length h.nodes.items ≤ n → sum_by f (take n (view_of h).seen.nodes) ≡ sum_by f (view_of h).seen.nodes
-all_counted h f none n l = sum_beyond f none n (view_of h).seen.nodes (λ p m. filled-beyond None (fixed_places + h.capacity) h.nodes.items p (omega (arith, m, l)))
+all_counted : (h : PlainHeap) (f : Option Node → ℕ) → f None ≡ 0 → (n : ℕ) → length h.nodes.shown ≤ n → sum_by f (take n (view_of h).seen.nodes) ≡ sum_by f (view_of h).seen.nodes
+all_counted h f none n l = sum_beyond f none n (view_of h).seen.nodes (λ p m. filled-beyond None (fixed_places + h.capacity) h.nodes.shown p (omega (arith, m, l)))
 
-pub totals_counted : (h : PlainHeap) (n : ℕ) (t : Totals) → length h.nodes.items ≤ n → IsCountedTo (view_of h).seen.nodes (dues (view_of h).seen) n t → record t { nodes = t.nodes - fixed_places } ≡ totals_of (view_of h).seen
+pub totals_counted : (h : PlainHeap) (n : ℕ) (t : Totals) → length h.nodes.shown ≤ n → IsCountedTo (view_of h).seen.nodes (dues (view_of h).seen) n t → record t { nodes = t.nodes - fixed_places } ≡ totals_of (view_of h).seen
 totals_counted h n t l k =
     let forced = k.forced ∙ all_counted h (λ o. length (done_of o)) refl n l in
     let steps = k.steps ∙ all_counted h (λ o. sum_by (λ (d : ℕ × ℕ). d.1) (done_of o)) refl n l in

@@ -3,8 +3,7 @@ use Rattle.std.specs.Prelude.{◌≡◌, ℕ, cond, ◌+◌, ◌*◌, ◌<◌, �
 use Rattle.lazy_rec.specs.declared.records.Rec.{Rec}
 use Rattle.lazy_rec.specs.declared.states.SuspState.{SuspState}
 use Rattle.lazy_rec.specs.declared.events.Event.{Event}
-use Rattle.lazy_rec.specs.History.{second_mark, is_second, event_of, kind_of}
-use Rattle.lazy_rec.specs.declared.events.Kind.TheVariants.{Bankq}
+use Rattle.lazy_rec.specs.History.{second_mark, is_second, event_of}
 use Rattle.dues.specs.Rooms as script
 use Rattle.heap_store.specs.declared.nodes.Node.{Node}
 use Rattle.heap_store.specs.declared.versions.Version.{Version}
@@ -76,10 +75,16 @@ pub record IsClosed (w : World) : Type 0 where
   pub unclaimed : (s : ℕ) → is_claimed_at w s ≡ false
   pub readable : (i : ℕ) → 1 ≤ i → i ≤ length w.rows → IsReadable i (words_at w i)
 
--- a store whose rows are all drawn and have ended
+-- all work together took no more steps than the events were charged, and no more places than theirs and eight for each step
+pub record IsPaid (w : World) : Type 0 where
+  pub steps : (totals_of w).steps ≤ (totals_of w).dues
+  pub places : (totals_of w).nodes ≤ direct_places w + 8 * (totals_of w).steps
+
+-- a store whose rows are all drawn and have ended, and whose work is paid
 pub record IsWhole (v : View) : Type 0 where
   pub closed : IsClosed v.seen
   pub named : length v.seen.rows ≤ v.named
+  pub paid : IsPaid v.seen
 
 -- such a store, and the totals of its world
 pub record IsCounted (v : View) (t : Totals) : Type 0 where
@@ -119,7 +124,3 @@ pub record IsBook (w : World) (capacity : ℕ) (events : List Event) : Type 0 wh
   -- no more places are published than the store has
   pub within : published_count w ≤ fixed_places + capacity
   pub bounded : IsBounded w capacity events
-
--- all events are of banker's queues
-abbrev pub AreQueues : List Event → Type 0
-AreQueues events = (i : ℕ) (e : Event) → event_of events i ≡ Some e → kind_of (event_of events) i ≡ Some Bankq

@@ -1,5 +1,10 @@
 pub mod Words
-pub mod Book
+pub mod RowSteps
+pub mod RowWords
+pub mod Works
+pub mod Finish
 pub mod Closed
-pub mod Running
 pub mod Totals
+pub mod Pass
+pub mod Calls
+pub mod Solo

@@ -2,7 +2,7 @@
 ghost use Rattle.std.specs.Prelude.{◌≡◌, ◌≤◌, Some, length};
 ghost use Rattle.heap_store.specs.World.{node_at};
 ghost use Rattle.heap_store.specs.Opened.{view_of};
-ghost use Rattle.version_book.specs.Closed.{IsWhole, row_told, node_told};
+ghost use Rattle.version_book.specs.Closed.{IsPaid, IsWhole, row_told, node_told};
 ghost use Rattle.version_book.specs.Totals.{totals_of};
 
 use crate::rows::{self, Row};
@@ -69,9 +69,10 @@ impl Closed {
         }
     }
 
-    /// What all its events came to.
+    /// What all its events came to: never more steps than dues.
     pub fn totals(&self) -> Totals
-        ensures { result ≡ totals_of self.now }
+        ensures totals { result ≡ totals_of self.now }
+        ensures paid { IsPaid self.now }
     {
         self.totals
     }

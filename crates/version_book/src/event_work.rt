@@ -1,14 +1,17 @@
-//! The work of one event, forces included.
-ghost use Rattle.std.specs.Prelude.{◌≡◌, ◌≤◌, [], IfOk, IfErr};
+//! The work of one event, written once for every kind, every store and every way to force.
+ghost use Rattle.std.specs.Prelude.{◌≡◌, ◌≤◌, true, [], IfOk, IfErr};
+ghost use Rattle.lazy_rec.specs.declared.events.Op.TheVariants.{New};
+ghost use Rattle.lazy_rec.specs.Due.{may_force, new_places};
+ghost use Rattle.heap_store.specs.View.{About};
 ghost use Rattle.heap_store.specs.Jobs.{IsJob};
-ghost use Rattle.bank_queue.specs.Queue.{IsReadyEvent};
-ghost use Rattle.version_book.specs.Book.{IsOwn};
-ghost use Rattle.heap_store.specs.Stages.{places_now, direct_of};
-ghost use Rattle.version_book.specs.Running.{Worked, Balked, Stopped, MadeOutcome, MadeQueue, ReadyNow, HasMeans};
+ghost use Rattle.heap_store.specs.Stages.{direct_of};
+ghost use Rattle.kind_table.specs.Kinds.{is_built};
+ghost use Rattle.version_book.specs.Works.{Stopped, MadeOutcome, MadeEmpty, HasMeans};
 
-use bank_queue::{BankJobs, build_event, new_queue, prepare_event};
-use force_engine::{GiveUp, Stack, force_solo};
-use heap_store::{After, Cursor, EventJob, Full, Heap, Prep, Rows, Stage};
+use crate::forces::Forces;
+use force_engine::GiveUp;
+use heap_store::{After, Cursor, EventJob, Heap, Prep, Rows};
+use kind_table::{build_event, new_event, new_places, prepare_event};
 use lazy_rec::{Kind, Ref, Reply};
 
 /// What an event makes: the root of its version, the number of items, and the reply.
@@ -19,101 +22,69 @@ pub struct Outcome {
     pub reply: Reply,
 }
 
-/// Forces what the event needs, and answers how many places it takes.
-fn make_ready<R: Rows>(heap: &mut R, stack: &mut Stack, job: &EventJob) -> Result<u32, GiveUp>
-    requires own { IsOwn (R.view heap.old) }
-    requires empty { stack.old ≡ [] }
-    requires job { IsJob (R.view heap.old).seen job.now }
-    requires start { job.now.stage ≡ Stage.Start }
-    requires kind { job.now.base.kind ≡ Kind.Bankq }
-    requires same { job.now.other ≡ job.now.base }
-    requires means { HasMeans (R.view heap.old) job.now }
-    ensures ok { IfOk result (λ nodes. ReadyNow (R.view heap.old) (R.view heap.new) job.now nodes) }
-    ensures err { IfErr result (λ cause. Stopped (R.view heap.old) (R.view heap.new) (direct_of job.now) cause) }
-    ensures empty { stack.new ≡ [] }
-{
-    let mut cursor = Cursor::new();
-    match prepare_event(heap, job, &mut cursor) {
-        Prep::Ready { nodes } => Ok(nodes),
-        Prep::Need(need) => {
-            if let Err(cause) = force_solo(heap, &BankJobs, stack, need) {
-                return Err(cause);
-            }
-            match prepare_event(heap, job, &mut cursor) {
-                Prep::Ready { nodes } => Ok(nodes),
-                Prep::Need(_) => unreachable!(),
-            }
-        }
-    }
-}
-
-/// Reserves the places of an event that is ready, and makes its result in them.
-fn make_result<R: Rows>(heap: &mut R, job: &EventJob, nodes: u32) -> Result<Outcome, Full>
-    requires own { IsOwn (R.view heap.old) }
-    requires job { IsJob (R.view heap.old).seen job.now }
-    requires kind { job.now.base.kind ≡ Kind.Bankq }
-    requires ready { IsReadyEvent (R.view heap.old).seen job.now nodes }
-    requires means { HasMeans (R.view heap.old) job.now }
-    requires few { nodes ≤ places_now job.now }
-    ensures ok { IfOk result (λ outcome. MadeOutcome (R.view heap.old) (R.view heap.new) job.now outcome) }
-    ensures err { IfErr result (λ refusal. Balked (R.view heap.old) (R.view heap.new) (direct_of job.now) refusal) }
-{
-    match heap.reserve(nodes) {
-        Err(refusal) => Err(refusal),
-        Ok(mut run) => {
-            let after = build_event(heap, job, &Cursor::new(), &mut run);
-            run.finish();
-            match after {
-                After::End { root, size, reply } => Ok(Outcome { root, size, reply }),
-                After::Next(_) => unreachable!(),
-            }
-        }
-    }
-}
-
-/// The work of an operation other than `new`.
-pub(crate) fn work<R: Rows>(
+/// The work of an operation other than `new`: its stages in order. In each, what it needs is forced first, and its prepare is
+/// asked again; then come one reserve and one build. Only an operation that may force asks for a way to.
+pub(crate) fn work<R: Rows, F: Forces>(
     heap: &mut R,
-    stack: &mut Stack,
+    forces: &mut F,
     job: &EventJob,
 ) -> Result<Outcome, GiveUp>
-    requires own { IsOwn (R.view heap.old) }
-    requires empty { stack.old ≡ [] }
+    requires idle { (R.view heap.old).hand.claims ≡ [] }
     requires job { IsJob (R.view heap.old).seen job.now }
-    requires start { job.now.stage ≡ Stage.Start }
-    requires kind { job.now.base.kind ≡ Kind.Bankq }
-    requires same { job.now.other ≡ job.now.base }
+    requires built { is_built job.now.base.kind job.now.op ≡ true }
     requires means { HasMeans (R.view heap.old) job.now }
+    requires serves { may_force job.now.base.kind job.now.op ≡ true → F.serves forces.old (R.view heap.old).about ≡ true }
     ensures ok { IfOk result (λ outcome. MadeOutcome (R.view heap.old) (R.view heap.new) job.now outcome) }
     ensures err { IfErr result (λ cause. Stopped (R.view heap.old) (R.view heap.new) (direct_of job.now) cause) }
-    ensures empty { stack.new ≡ [] }
+    ensures memory { IfErr result (λ cause. cause ≡ GiveUp.NoMemory → may_force job.now.base.kind job.now.op ≡ true) }
+    ensures same { (about : About) → F.serves forces.new about ≡ F.serves forces.old about }
 {
-    match make_ready(heap, stack, job) {
-        Err(cause) => Err(cause),
-        Ok(nodes) => match make_result(heap, job, nodes) {
-            Ok(outcome) => Ok(outcome),
-            Err(refusal) => Err(GiveUp::Full(refusal)),
-        },
+    let mut now = *job;
+    let mut cursor = Cursor::new();
+    loop {
+        match prepare_event(heap, &now, &mut cursor) {
+            Prep::Need(need) => {
+                if let Err(cause) = forces.force(heap, need) {
+                    return Err(cause);
+                }
+            }
+            Prep::Ready { nodes } => {
+                let mut run = match heap.reserve(nodes) {
+                    Ok(run) => run,
+                    Err(refusal) => return Err(GiveUp::Full(refusal)),
+                };
+                let after = build_event(heap, &now, &cursor, &mut run);
+                run.finish();
+                match after {
+                    After::End { root, size, reply } => return Ok(Outcome { root, size, reply }),
+                    After::Next(next) => {
+                        now = next;
+                        cursor = Cursor::new();
+                    }
+                }
+            }
+        }
     }
 }
 
-/// The work of `new bankq`.
-pub(crate) fn make_queue<R: Rows>(heap: &mut R) -> Result<Outcome, GiveUp>
-    requires own { IsOwn (R.view heap.old) }
-    requires places { 1 ≤ (R.view heap.old).hand.allowance }
-    ensures ok { IfOk result (λ outcome. MadeQueue (R.view heap.old) (R.view heap.new) outcome) }
-    ensures err { IfErr result (λ cause. Stopped (R.view heap.old) (R.view heap.new) 1 cause) }
+/// The work of `new`: an empty structure of the kind.
+pub(crate) fn make_empty<R: Rows>(heap: &mut R, kind: Kind) -> Result<Outcome, GiveUp>
+    requires idle { (R.view heap.old).hand.claims ≡ [] }
+    requires built { is_built kind (New kind) ≡ true }
+    requires places { new_places kind ≤ (R.view heap.old).hand.allowance }
+    ensures ok { IfOk result (λ outcome. MadeEmpty (R.view heap.old) (R.view heap.new) kind outcome) }
+    ensures err { IfErr result (λ cause. Stopped (R.view heap.old) (R.view heap.new) (new_places kind) cause) }
+    ensures memory { IfErr result (λ cause. cause ≡ GiveUp.NoMemory → ⊥) }
 {
-    match heap.reserve(1) {
-        Err(refusal) => Err(GiveUp::Full(refusal)),
-        Ok(mut run) => {
-            let root = new_queue(heap, &mut run);
-            run.finish();
-            Ok(Outcome {
-                root,
-                size: 0,
-                reply: Reply::Ok,
-            })
-        }
-    }
+    let mut run = match heap.reserve(new_places(kind)) {
+        Ok(run) => run,
+        Err(refusal) => return Err(GiveUp::Full(refusal)),
+    };
+    let root = new_event(heap, kind, &mut run);
+    run.finish();
+    Ok(Outcome {
+        root,
+        size: 0,
+        reply: Reply::Ok,
+    })
 }

@@ -1,13 +1,14 @@
 //! The row of one event: begun, skipped and ended, word by word.
-ghost use Rattle.std.specs.Prelude.{◌≡◌, ◌<◌, ◌≤◌, true, false, Some};
+ghost use Rattle.std.specs.Prelude.{◌≡◌, ◌<◌, ◌≤◌, true, false, Some, None};
 ghost use Rattle.lazy_rec.specs.declared.limits.TheConstants.{MOST_DRAWN, MOST_PLACES};
-ghost use Rattle.lazy_rec.specs.declared.events.Event.{Event};
-ghost use Rattle.heap_store.specs.Legal.{reply_in_range};
 ghost use Rattle.heap_store.specs.Rows.{Row, row_at, store_word};
 ghost use Rattle.heap_store.specs.Rows.Ending.{answered, full, memory};
+ghost use Rattle.heap_store.specs.Legal.{reply_in_range};
 ghost use Rattle.heap_store.specs.Budget.{direct_at};
 ghost use Rattle.heap_store.specs.Causes.{IsFullCause, given_back_count};
-ghost use Rattle.version_book.specs.Book.{MayPut, WordPut, ReplyPut, IsDrawn, IsNextEvent, MayBegin, Begun, MayEndRow, RowEnded, IsWorking, Answers, begun_row, ended_row, skipped_row, HasLostBase};
+ghost use Rattle.heap_store.specs.RowCalls.{MayStore};
+ghost use Rattle.version_book.specs.RowSteps.{IsCaller, IsDrawn, IsNextEvent, MayBegin, HasLostBase, IsWorking, Answers, Begun, RowEnded, Skipped};
+ghost use Rattle.version_book.specs.RowWords.{MayPut, WordPut, ReplyPut, RowStarted};
 
 use crate::words::{
     FULL, MEMORY, NO_BASE, REPLIED, bases_word, first_word, full_word, reply_word, version_word,
@@ -23,23 +24,27 @@ fn put_word<R: Rows>(heap: &mut R, name: u32, word: u32, value: u64)
     heap.store_row(name, word, value);
 }
 
-/// Begins an event whose bases are answered.
-pub(crate) fn begin<R: Rows>(heap: &mut R, name: u32, event: &Event)
+/// Stores the first three words, word 0 last: with it there is a row.
+fn start_row<R: Rows>(heap: &mut R, caller: u32, name: u32, event: &Event, begun: bool)
+    requires caller { IsCaller (R.view heap.old) caller }
     requires drawn { IsDrawn (R.view heap.old) name }
-    requires event { MayBegin (R.view heap.old) name event.now }
-    ensures { Begun (R.view heap.old) (R.view heap.new) name event.now }
+    requires event { IsNextEvent (R.view heap.old) name event.now }
+    requires bases { begun ≡ true → MayBegin (R.view heap.old) name event.now }
+    ensures { RowStarted (R.view heap.old) (R.view heap.new) caller name event.now begun }
 {
     put_word(heap, name, 1, bases_word(event.base, event.other));
     put_word(heap, name, 2, event.arg);
-    heap.store_row(name, 0, first_word(0, event.op, true));
+    heap.store_row(name, 0, first_word(caller, event.op, begun));
 }
 
-/// Stores the end word.
-fn end_row<R: Rows>(heap: &mut R, name: u32, code: u64)
-    requires { MayEndRow (R.view heap.old) name code }
-    ensures { (r : Row) → row_at (store_word (R.view heap.old).seen name 5 code) name ≡ Some r → RowEnded (R.view heap.old) (R.view heap.new) name r }
+/// Begins an event whose bases are answered.
+pub(crate) fn begin<R: Rows>(heap: &mut R, caller: u32, name: u32, event: &Event)
+    requires caller { IsCaller (R.view heap.old) caller }
+    requires drawn { IsDrawn (R.view heap.old) name }
+    requires event { MayBegin (R.view heap.old) name event.now }
+    ensures { Begun (R.view heap.old) (R.view heap.new) caller name event.now }
 {
-    heap.store_row(name, 5, code);
+    start_row(heap, caller, name, event, true);
 }
 
 /// Stores a reply: word 4, and word 7 where it is a number.
@@ -55,12 +60,20 @@ fn put_reply<R: Rows>(heap: &mut R, name: u32, reply: Reply)
     put_word(heap, name, 7, number);
 }
 
+/// Stores the end word.
+fn end_row<R: Rows>(heap: &mut R, name: u32, code: u64)
+    requires { MayStore (R.view heap.old) name 5 code }
+    ensures { (r : Row) → row_at (store_word (R.view heap.old).seen name 5 code) name ≡ Some r → RowEnded (R.view heap.old) (R.view heap.new) name r }
+{
+    heap.store_row(name, 5, code);
+}
+
 /// Ends the event with a reply and its version.
 pub(crate) fn end_with_reply<R: Rows>(heap: &mut R, reply: Reply, version: Version)
     requires working { IsWorking (R.view heap.old) version.name false }
-    requires answers { (e : Event) → row_at (R.view heap.old).seen version.name ≡ Some (begun_row e) → Answers (R.view heap.old).seen e reply version }
+    requires answers { (r : Row) → row_at (R.view heap.old).seen version.name ≡ Some r → Answers (R.view heap.old).seen r.event reply version }
     requires place { version.root.0 < MOST_PLACES }
-    ensures { (e : Event) → row_at (R.view heap.old).seen version.name ≡ Some (begun_row e) → RowEnded (R.view heap.old) (R.view heap.new) version.name (ended_row e (answered reply version None)) }
+    ensures { (r : Row) → row_at (R.view heap.old).seen version.name ≡ Some r → RowEnded (R.view heap.old) (R.view heap.new) version.name (record r { ending = answered reply version None }) }
 {
     let name = version.name;
     put_word(
@@ -79,7 +92,7 @@ pub(crate) fn end_full<R: Rows>(heap: &mut R, name: u32, refusal: Full)
     requires last { refusal ≡ (R.view heap.old).refusals.last }
     requires drawn { refusal.drawn ≤ MOST_DRAWN }
     requires cause { IsFullCause (R.view heap.old).seen (direct_at (R.view heap.old).seen name) refusal.wanted }
-    ensures { (e : Event) → row_at (R.view heap.old).seen name ≡ Some (begun_row e) → RowEnded (R.view heap.old) (R.view heap.new) name (ended_row e (full refusal.drawn refusal.wanted)) }
+    ensures { (r : Row) → row_at (R.view heap.old).seen name ≡ Some r → RowEnded (R.view heap.old) (R.view heap.new) name (record r { ending = full refusal.drawn refusal.wanted }) }
 {
     put_word(heap, name, 4, full_word(refusal));
     end_row(heap, name, FULL);
@@ -89,20 +102,19 @@ pub(crate) fn end_full<R: Rows>(heap: &mut R, name: u32, refusal: Full)
 pub(crate) fn end_for_memory<R: Rows>(heap: &mut R, name: u32)
     requires working { IsWorking (R.view heap.old) name false }
     requires cause { 64 ≤ given_back_count (R.view heap.old).seen }
-    ensures { (e : Event) → row_at (R.view heap.old).seen name ≡ Some (begun_row e) → RowEnded (R.view heap.old) (R.view heap.new) name (ended_row e memory) }
+    ensures { (r : Row) → row_at (R.view heap.old).seen name ≡ Some r → RowEnded (R.view heap.old) (R.view heap.new) name (record r { ending = memory }) }
 {
     end_row(heap, name, MEMORY);
 }
 
 /// Stores that an event was skipped, since one of its bases is given up.
-pub(crate) fn skip<R: Rows>(heap: &mut R, name: u32, event: &Event)
+pub(crate) fn skip<R: Rows>(heap: &mut R, caller: u32, name: u32, event: &Event)
+    requires caller { IsCaller (R.view heap.old) caller }
     requires drawn { IsDrawn (R.view heap.old) name }
-    requires event { IsNextEvent name event.now }
+    requires event { IsNextEvent (R.view heap.old) name event.now }
     requires lost { HasLostBase (R.view heap.old) event.now }
-    ensures { RowEnded (R.view heap.old) (R.view heap.new) name (skipped_row event.now) }
+    ensures { Skipped (R.view heap.old) (R.view heap.new) caller name event.now }
 {
-    put_word(heap, name, 1, bases_word(event.base, event.other));
-    put_word(heap, name, 2, event.arg);
-    heap.store_row(name, 0, first_word(0, event.op, false));
+    start_row(heap, caller, name, event, false);
     end_row(heap, name, NO_BASE);
 }

@@ -29,6 +29,7 @@ pub enum Ended {
 
 impl Ended {
     /// The version with a number, where the row has it: the first, or the second one.
+    #[inline(always)]
     pub fn version(&self, number: u32) -> Option<Version>
         ensures { result ≡ version_in number self.now }
     {

@@ -27,6 +27,7 @@ pub struct Totals {
 }
 
 /// The totals with one more place.
+#[inline(always)]
 fn counted(totals: Totals, node: Option<Node>) -> Totals
     requires { HasRoom totals }
     ensures counted { result ≡ counted totals node }
@@ -55,7 +56,8 @@ fn counted(totals: Totals, node: Option<Node>) -> Totals
     totals
 }
 
-/// The version with a number, where its row was answered.
+/// The version with a number, where its row was answered. Inlined, so that only what is asked of it is decoded.
+#[inline(always)]
 fn version(heap: &PlainHeap, number: u32) -> Option<Version>
     requires { IsWhole (view_of heap.now) }
     ensures { result ≡ version_at (row_at (view_of heap.now).seen) number }
@@ -114,6 +116,7 @@ fn dues(heap: &PlainHeap) -> u64
 }
 
 /// The totals of a store whose rows have all ended and that has drawn so many places.
+#[inline(never)]
 pub(crate) fn count_totals(heap: &PlainHeap, drawn: u64) -> Totals
     requires whole { IsWhole (view_of heap.now) }
     requires drawn { drawn ≡ (view_of heap.now).drawn }

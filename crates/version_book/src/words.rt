@@ -42,6 +42,7 @@ fn op_number(op: Op) -> u64
 }
 
 /// The kind with a number.
+#[inline(always)]
 fn kind_of(number: u64) -> Kind
     requires { is_some (kind_of_number number) ≡ true }
     ensures { kind_of_number number ≡ Some result }
@@ -53,6 +54,7 @@ fn kind_of(number: u64) -> Kind
 }
 
 /// The operation with a number.
+#[inline(always)]
 pub(crate) fn op_of(number: u64) -> Op
     requires { is_some (op_of_number number) ≡ true }
     ensures { op_of_number number ≡ Some result }
@@ -64,6 +66,7 @@ pub(crate) fn op_of(number: u64) -> Op
 }
 
 /// Word 0 of a row of a caller and an operation: begun, or skipped.
+#[inline(always)]
 pub fn first_word(caller: u32, op: Op, begun: bool) -> u64
     requires { caller < 64 }
     ensures { IsFirstWord result caller op begun }
@@ -77,6 +80,7 @@ pub fn first_word(caller: u32, op: Op, begun: bool) -> u64
 }
 
 /// Word 1: the base, and from bit 32 on the other.
+#[inline(always)]
 pub fn bases_word(base: u32, other: u32) -> u64
     ensures { IsBasesWord result base other }
 {
@@ -84,6 +88,7 @@ pub fn bases_word(base: u32, other: u32) -> u64
 }
 
 /// Word 3: the root's place, from bit 22 on the kind's number, and from bit 32 on the size.
+#[inline(always)]
 pub fn version_word(root: Ref, kind: Kind, size: u32) -> u64
     requires place { root.0 < MOST_PLACES }
     requires size { size < 2147483648 }
@@ -93,6 +98,7 @@ pub fn version_word(root: Ref, kind: Kind, size: u32) -> u64
 }
 
 /// Word 4 of a row that ended with a reply. Word 7 has the number where it is one.
+#[inline(always)]
 pub fn reply_word(reply: Reply) -> u64
     ensures words { (before : ℕ) → AreReplyWords result (number_after reply before) reply }
     ensures range { reply_in_range reply ≡ true }
@@ -117,6 +123,7 @@ pub fn full_word(full: Full) -> u64
 }
 
 /// The first version of a name, by word 3.
+#[inline(always)]
 pub fn version_of(name: u32, word: u64) -> Version
     requires { is_some (version_of_word name word) ≡ true }
     ensures { version_of_word name word ≡ Some result }
@@ -130,6 +137,7 @@ pub fn version_of(name: u32, word: u64) -> Version
 }
 
 /// The second version of a name, by word 6, where there is one. It has the first one's kind.
+#[inline(always)]
 pub fn second_version(name: u32, word: u64, first: &Version) -> Option<Version>
     requires { name < second_mark }
     ensures { result ≡ second_of_word name word first.now }
@@ -146,6 +154,7 @@ pub fn second_version(name: u32, word: u64, first: &Version) -> Option<Version>
 }
 
 /// The reply that words 4 and 7 tell.
+#[inline(always)]
 pub fn reply_of(word: u64, number: u64) -> Reply
     ensures { result ≡ reply_of_words word number }
 {

@@ -3,8 +3,7 @@ use Rattle.lazy_rec.specs.Due.{due}
 use Rattle.dues.proofs.RoomLaws.{due_fits}
 use Rattle.heap_store.specs.LookedAt.{size_of}
 use Rattle.heap_store.specs.Opened.{view_of}
-use Rattle.version_book.proofs.Events.{not_new}
-use Rattle.version_book.proofs.Sums.{told_at, due_unbegun, due_new, due_based, has_base, not_unbegun, unbegun}
+use Rattle.version_book.proofs.Sums.{told_at, due_unbegun, due_new, due_based, has_base, not_new, not_unbegun, unbegun}
 use Rattle.version_book.proofs.totals.due_of.Goals as goal
 
 pub unreachable-requires : goal.unreachable-requires

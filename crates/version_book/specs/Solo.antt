@@ -1,0 +1,61 @@
+-- Events run in order by one caller, on a store that no other works on.
+use Rattle.std.specs.Prelude.{◌≡◌, ◌≢◌, ℕ, ◌+◌, ◌^◌, ◌<◌, ltb, leb, ◌&&◌, false, true, Some, None}
+use Rattle.std.specs.List.{list_all}
+use Rattle.lazy_rec.specs.declared.events.Event.{Event}
+use Rattle.lazy_rec.specs.Tests.{is_some_and}
+use Rattle.lazy_rec.specs.Kinds.{bases, is_trim, uses_base, uses_other}
+use Rattle.lazy_rec.specs.History.{event_name, has_smaller_bases, is_of_its_kind, kind_made, kind_of, names_seconds_well}
+use Rattle.heap_store.specs.declared.versions.Version.{Version}
+use Rattle.heap_store.specs.Rows.{Row, full, row_at, is_ended, is_ended_at, events_of}
+use Rattle.heap_store.specs.Growth.{Grows}
+use Rattle.heap_store.specs.Budget.{direct_at}
+use Rattle.heap_store.specs.Causes.{HasCause}
+use Rattle.kind_table.specs.Kinds.{is_built}
+use Rattle.version_book.specs.Pass.{Pass}
+use Rattle.version_book.specs.Closed.{IsRefusal}
+use Rattle.version_book.specs.Calls.{IsFound}
+
+-- no other works on the store, it has no plan, and the rows are those of caller 0
+pub record IsSolo (p : Pass) : Type 0 where
+  pub alone : p.view.about.alone ≡ true
+  pub plan : p.view.about.plan ≡ None
+  pub caller : p.caller ≡ 0
+
+-- the event starts from versions, whose rows have ended; a second version that it uses is one of a split
+pub record UsesEnded (p : Pass) (e : Event) : Type 0 where
+  pub based : uses_base e.op ≡ true
+  pub low : list_all (λ n. ltb 0 (event_name n) && leb (event_name n) p.view.about.rows) (bases e) ≡ true
+  pub ended : list_all (λ n. is_ended_at (row_at p.view.seen) (event_name n)) (bases e) ≡ true
+  pub seconds : names_seconds_well (events_of (row_at p.view.seen)) e ≡ true
+
+-- the versions that it uses, the base twice where it has no other
+pub record AreBases (p : Pass) (e : Event) (base other : Version) : Type 0 where
+  pub base_is : IsFound p.view.seen e.base base
+  pub other_is : uses_other e.op ≡ true → IsFound p.view.seen e.other other
+  pub alone : uses_other e.op ≡ false → other ≡ base
+
+-- an event that may come next: the rows of its bases have ended, a second version that it uses is one of a split, and it is built
+pub record ComesNext (p : Pass) (e : Event) : Type 0 where
+  pub room : p.view.named < p.view.about.rows
+  pub trim : is_trim e ≡ true
+  pub smaller : has_smaller_bases (p.view.named + 1) e ≡ true
+  pub argument : ltb e.arg (2 ^ 64) ≡ true
+  pub ended : list_all (λ n. is_ended_at (row_at p.view.seen) (event_name n)) (bases e) ≡ true
+  pub seconds : names_seconds_well (events_of (row_at p.view.seen)) e ≡ true
+  pub kinds : is_of_its_kind (events_of (row_at p.view.seen)) e ≡ true
+  pub built : is_some_and (λ k. is_built k e.op) (kind_made (kind_of (events_of (row_at p.view.seen))) (Some e)) ≡ true
+
+-- the event was run under the next name, and its row has ended
+pub record Ran (old new : Pass) (e : Event) : Type 0 where
+  pub grows : Grows old.view.seen new.view.seen
+  pub named : new.view.named ≡ old.view.named + 1
+  pub about : new.view.about ≡ old.view.about
+  pub caller : new.caller ≡ old.caller
+  pub others : (i : ℕ) → i ≢ old.view.named + 1 → row_at new.view.seen i ≡ row_at old.view.seen i
+  pub row : Row
+  pub here : row_at new.view.seen (old.view.named + 1) ≡ Some row
+  pub event : row.event ≡ e
+  pub caller_is : row.caller ≡ old.caller
+  pub ended : is_ended row.ending ≡ true
+  pub numbers : (drawn wanted : ℕ) → row.ending ≡ full drawn wanted → IsRefusal new.view.seen old.view.about.capacity drawn wanted
+  pub cause : HasCause new.view.seen (direct_at new.view.seen (old.view.named + 1)) row.ending
