@@ -1,11 +1,16 @@
 //! The report of a closed book as bytes: one line for each event, and one of totals.
 #![tactic(auto)]
 
-ghost use Rattle.std.specs.Prelude.{◌≡◌, ◌++◌, IfOk, OnOk, not, codes, decimal, length};
+ghost use Rattle.std.specs.Prelude.{◌≡◌, ◌++◌, ◌+◌, ◌≤◌, IfOk, OnOk, not, codes, decimal, length};
 ghost use Rattle.report_text.specs.Report.{is_reply, reply_text, ended_text, row_text, field_text, totals_text, report_of, some_given_up};
 
+mod counter;
+mod line;
+
+use counter::Counter;
 use itoa::Buffer;
 use lazy_rec::{NoMemory, Reply};
+use line::Line;
 use std::alloc::{AllocError, Global};
 use version_book::{Closed, Ended, Row, Totals};
 
@@ -36,41 +41,76 @@ fn end_line(out: &mut Vec<u8>) -> Result<(), AllocError>
     push_text(out, "\n")
 }
 
-fn push_reply(out: &mut Vec<u8>, buffer: &mut Buffer, reply: Reply) -> Result<(), AllocError>
-    ensures { OnOk result (out.new.items ≡ out.old.items ++ reply_text reply) }
+#[inline(always)]
+fn put_reply(line: &mut Line, reply: Reply)
+    requires room { length line.old + 20 ≤ 80 }
+    ensures text { line.new ≡ reply_text reply ++ line.old }
+    ensures short { length line.new ≤ length line.old + 20 }
 {
     match reply {
-        Reply::Ok => push_text(out, "ok"),
-        Reply::Number(n) => push_number(out, buffer, n),
-        Reply::Empty => push_text(out, "empty"),
-        Reply::TooLong => push_text(out, "toolong"),
+        Reply::Ok => line.put_text("ok"),
+        Reply::Number(n) => line.put_number(n),
+        Reply::Empty => line.put_text("empty"),
+        Reply::TooLong => line.put_text("toolong"),
     }
 }
 
-fn push_ended(out: &mut Vec<u8>, buffer: &mut Buffer, ended: Ended) -> Result<(), AllocError>
-    ensures { OnOk result (out.new.items ≡ out.old.items ++ ended_text ended) }
+#[inline(always)]
+fn put_ended(line: &mut Line, ended: Ended)
+    requires room { length line.old ≤ 1 }
+    ensures text { line.new ≡ ended_text ended ++ line.old }
+    ensures short { length line.new ≤ 47 }
 {
     match ended {
-        Ended::Reply { reply, .. } => push_reply(out, buffer, reply),
+        Ended::Reply { reply, .. } => put_reply(line, reply),
         Ended::Full { drawn, wanted } => {
-            push_text(out, "full ")?;
-            push_number(out, buffer, drawn)?;
-            push_text(out, " ")?;
-            push_number(out, buffer, u64::from(wanted))
+            line.put_number(u64::from(wanted));
+            line.put_text(" ");
+            line.put_number(drawn);
+            line.put_text("full ");
         }
-        Ended::Memory => push_text(out, "memory"),
-        Ended::NoBase => push_text(out, "nobase"),
+        Ended::Memory => line.put_text("memory"),
+        Ended::NoBase => line.put_text("nobase"),
     }
 }
 
-// The line of a row.
-fn push_row(out: &mut Vec<u8>, buffer: &mut Buffer, row: Row) -> Result<(), AllocError>
+// The line of a row that ended otherwise than with `ok`.
+#[inline(always)]
+fn push_other(
+    out: &mut Vec<u8>,
+    counter: &Counter,
+    line: &mut Line,
+    row: Row,
+) -> Result<(), AllocError>
+    requires { counter.now ≡ decimal row.name ++ codes " ok\n" }
     ensures { OnOk result (out.new.items ≡ out.old.items ++ row_text row) }
 {
-    push_number(out, buffer, u64::from(row.name))?;
-    push_text(out, " ")?;
-    push_ended(out, buffer, row.ended)?;
-    end_line(out)
+    line.clear();
+    line.put_text("\n");
+    put_ended(line, row.ended);
+    line.put_text(" ");
+    out.extend_from_slice(counter.digits())?;
+    out.extend_from_slice(line.as_slice())
+}
+
+// The line of a row, whose name the counter shows.
+#[inline(always)]
+fn push_row(
+    out: &mut Vec<u8>,
+    counter: &Counter,
+    line: &mut Line,
+    row: Row,
+) -> Result<(), AllocError>
+    requires { counter.now ≡ decimal row.name ++ codes " ok\n" }
+    ensures { OnOk result (out.new.items ≡ out.old.items ++ row_text row) }
+{
+    match row.ended {
+        Ended::Reply {
+            reply: Reply::Ok,
+            ..
+        } => out.extend_from_slice(counter.with_ok()),
+        _ => push_other(out, counter, line, row),
+    }
 }
 
 // A word and its number.
@@ -99,19 +139,22 @@ fn is_given_up(row: Row) -> bool
     !matches!(row.ended, Ended::Reply { .. })
 }
 
+#[inline(never)]
 fn lines(alloc: Global, closed: &Closed) -> Result<Printed, AllocError>
     ensures text { IfOk result (λ r. r.text.items ≡ report_of closed.now) }
     ensures given_up { IfOk result (λ r. r.has_given_up ≡ some_given_up closed.now (length closed.now.rows)) }
 {
     let mut text = Vec::new(alloc);
-    let mut buffer = Buffer::new();
+    let mut line = Line::new();
+    let mut counter = Counter::new();
     let mut has_given_up = false;
     for i in 0..closed.rows() {
+        counter.next(u64::from(i));
         let row = closed.row(i + 1);
         has_given_up |= is_given_up(row);
-        push_row(&mut text, &mut buffer, row)?;
+        push_row(&mut text, &counter, &mut line, row)?;
     }
-    push_totals(&mut text, &mut buffer, closed.totals())?;
+    push_totals(&mut text, &mut Buffer::new(), closed.totals())?;
     Ok(Printed { text, has_given_up })
 }
 
