@@ -1,0 +1,9 @@
+pub mod Rule
+pub mod Sound
+pub mod Plays
+pub mod Views
+pub mod Opened
+pub mod Claims
+pub mod Passes
+pub mod Stores
+pub mod Props
