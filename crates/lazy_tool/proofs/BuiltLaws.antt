@@ -1,24 +1,15 @@
 -- Scripts whose events are built.
 use Rattle.std.proofs.Common.{◌≡◌, ℕ, zero, suc, ◌+◌, ◌<◌, ◌≤◌, true, Option, Some, None, List, length, slice_get, get_or, refl, sym, ap, subst, arith, ⊎_elim}
-use Rattle.std.proofs.lemmas.Bool.{true≢false, cases_lt}
+use Rattle.std.proofs.lemmas.Bool.{cases_lt}
 use Rattle.std.proofs.lemmas.Option.{slice_get_past, slice_get-get_or}
 use Rattle.lazy_rec.specs.declared.events.Kind.{Kind}
 use Rattle.lazy_rec.specs.declared.events.Kind.TheVariants as kinds
-use Rattle.lazy_rec.specs.declared.events.Op.{Op}
 use Rattle.lazy_rec.specs.declared.events.Op.TheVariants as ops
 use Rattle.lazy_rec.specs.declared.events.Event.{Event}
 use Rattle.lazy_rec.specs.Tests.{is_some_and}
 use Rattle.lazy_rec.specs.History.{event_of, kind_of}
-use Rattle.version_book.specs.Closed.{AreQueues}
-use Rattle.lazy_tool.specs.Scripts.{is_built, is_built_at, AreBuilt, AreBuiltBefore}
-
-only_queues : (o : Option Kind) (op : Op) → is_some_and (λ k. is_built k op) o ≡ true → o ≡ Some kinds.Bankq
-only_queues None op h = absurd (true≢false (sym h))
-only_queues (Some kinds.Bankq) op h = refl
-only_queues (Some _) op h = absurd (true≢false (sym h))
-
-pub queues_are : (events : List Event) → AreBuilt events → AreQueues events
-queues_are events built i e here = only_queues (kind_of (event_of events) i) e.op (built i e here)
+use Rattle.kind_table.specs.Kinds.{is_built, is_built_at, AreBuilt}
+use Rattle.lazy_tool.specs.Scripts.{AreBuiltBefore}
 
 -- no event has the name 0
 pub none_before : (events : List Event) → AreBuiltBefore events 1

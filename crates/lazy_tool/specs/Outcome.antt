@@ -17,7 +17,8 @@ use Rattle.lazy_tool.specs.declared.faults.Why.{Why}
 use Rattle.lazy_tool.specs.declared.faults.Why.TheVariants as why
 use Rattle.lazy_tool.specs.declared.words.Command.{Command}
 use Rattle.lazy_tool.specs.declared.words.Command.TheVariants.{Plain, Gen}
-use Rattle.lazy_tool.specs.Scripts.{IsTextOf, AreBuilt, IsFirstUnbuilt}
+use Rattle.kind_table.specs.Kinds.{AreBuilt}
+use Rattle.lazy_tool.specs.Scripts.{IsTextOf, IsFirstUnbuilt}
 
 -- ---- the ends
 

@@ -1,19 +1,10 @@
-//! Which operations of which kinds are built.
+//! The first event of a script that isn't built yet.
 ghost use Rattle.std.specs.Prelude.{◌≡◌, MatchOption};
-ghost use Rattle.lazy_tool.specs.Scripts.{is_built, AreBuilt, IsFirstUnbuilt};
+ghost use Rattle.kind_table.specs.Kinds.{AreBuilt};
+ghost use Rattle.lazy_tool.specs.Scripts.{IsFirstUnbuilt};
 
-use lazy_rec::{Kind, Op};
+use kind_table::is_built;
 use script_text::Script;
-
-/// Whether the operation of the kind is built.
-pub fn is_built(kind: Kind, op: Op) -> bool
-    ensures { result ≡ is_built kind op }
-{
-    match kind {
-        Kind::Bankq => matches!(op, Op::New(_) | Op::Snoc | Op::Head | Op::Tail),
-        _ => false,
-    }
-}
 
 /// The number of the first event that isn't built, where there is one.
 pub fn first_unbuilt(script: &Script) -> Option<u32>

@@ -7,6 +7,7 @@ use crate::words::USAGE;
 use arrayvec::ArrayString;
 use itoa::Buffer;
 use script_text::Reason;
+use std::fmt;
 use std::marker::Model;
 
 /// Why a call ended as it did.
@@ -108,3 +109,11 @@ pub fn fault_text(why: &Why) -> FaultText
         Why::Memory => text_of("out of memory"),
     }
 }
+
+impl fmt::Display for Why {
+    fn fmt<W: fmt::Write>(&self, f: &mut fmt::Formatter<W>) -> fmt::Result {
+        f.write_str(fault_text(self).as_str())
+    }
+}
+
+impl std::error::Error for Why {}

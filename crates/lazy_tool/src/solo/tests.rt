@@ -1,7 +1,8 @@
 use super::{Outcome, run_solo};
-use crate::faults::fault_text;
+use crate::faults::{Why, fault_text};
 use lazy_outside::{MemSink, MemSource, Source, SureSource, Taken};
 use lazy_rec::{Ref, SuspState};
+use script_text::Reason;
 use std::alloc::{AllocError, Global};
 use std::test::Fail;
 
@@ -14,7 +15,7 @@ const ROTATION_REPORT: &str =
 const NO_TOTALS: &str = "totals forced 0 steps 0 givenup 0 dues 0\n";
 
 // A script, and its report.
-const REPORTS: [(&str, &str); 5] = [
+const REPORTS: [(&str, &str); 7] = [
     ("lazy 1\n", NO_TOTALS),
     ("lazy 1", NO_TOTALS),
     (ROTATION, ROTATION_REPORT),
@@ -25,6 +26,14 @@ const REPORTS: [(&str, &str); 5] = [
     (
         "lazy 1\nnew bankq\nsnoc 1 10\nsnoc 2 20\nsnoc 3 30\ntail 4\ntail 4\nhead 5\nhead 6\n",
         "1 ok\n2 ok\n3 ok\n4 ok\n5 ok\n6 ok\n7 20\n8 20\ntotals forced 3 steps 4 givenup 0 dues 7\n",
+    ),
+    (
+        "lazy 1\nnew rtq\nsnoc 1 1\nsnoc 2 2\nsnoc 3 3\nsnoc 4 4\nsnoc 5 5\nsnoc 6 6\nsnoc 7 7\ntail 1\ntail 2\ntail 3\ntail 4\ntail 5\ntail 6\ntail 7\ntail 8\n",
+        "1 ok\n2 ok\n3 ok\n4 ok\n5 ok\n6 ok\n7 ok\n8 ok\n9 empty\n10 ok\n11 ok\n12 ok\n13 ok\n14 ok\n15 ok\n16 ok\ntotals forced 4 steps 4 givenup 0 dues 15\n",
+    ),
+    (
+        "lazy 1\nnew stream\ncons 1 2\ncons 2 1\nappend 3 3\nreverse 4\nhead 5\n",
+        "1 ok\n2 ok\n3 ok\n4 ok\n5 ok\n6 2\ntotals forced 3 steps 6 givenup 0 dues 6\n",
     ),
 ];
 
@@ -80,10 +89,10 @@ const REFUSED: [(&str, &str); 13] = [
         "line 4: bases of two kinds",
     ),
     ("lazy 1\nnew rtq\nsnoc 2 5\n", "line 3: base not earlier"),
-    ("lazy 1\nnew rtq\n", "event 1: not built"),
-    ("lazy 1\nnew bankq\nsize 1\n", "event 2: not built"),
+    ("lazy 1\nnew cat\n", "event 1: not built"),
+    ("lazy 1\nnew bankq\nnew ord\nsize 1\n", "event 2: not built"),
     (
-        "lazy 1\nnew bankq\n\nsnoc 1 5\nnew heap\nhead 2\nsize 3\n",
+        "lazy 1\nnew bankq\n\nsnoc 1 5\nnew prio\nhead 2\nsize 3\n",
         "event 3: not built",
     ),
     ("lazy 1\nnew seq", "event 1: not built"),
@@ -118,7 +127,7 @@ fn source(alloc: Global, text: &str, failing: &[u32]) -> Result<MemSource, Alloc
 }
 
 fn sink(alloc: Global, failing: &[u32]) -> Result<MemSink, AllocError> {
-    Ok(MemSink::new(vec![in alloc; 0; 128]?, 4, failing.to_vec(alloc)?))
+    Ok(MemSink::new(vec![in alloc; 0; 256]?, 4, failing.to_vec(alloc)?))
 }
 
 #[test]
@@ -160,6 +169,30 @@ fn four_nodes(rt: HostRuntime) -> Result<(), Fail> {
     assert_eq!(rt; closed.totals().nodes, 4);
     let (_, state) = closed.node(Ref(7)).ok_or("no node")?;
     assert_eq!(rt; state, SuspState::Unforced { given_up: 2 });
+    Ok(())
+}
+
+// Two queues of one item each, of which one is looked at. Its rotation is done, the other one and a value show a state that
+// was never touched.
+#[test]
+fn states_of_suspensions(rt: HostRuntime) -> Result<(), Fail> {
+    let words = words_of(rt.alloc(), &["plain"])?;
+    let text = "lazy 1\nnew bankq\nsnoc 1 5\nsnoc 1 6\nhead 2\n";
+    let mut source = source(rt.alloc(), text, &[])?;
+    let mut sink = sink(rt.alloc(), &[])?;
+    let outcome = run_solo(rt.alloc(), words.as_slice(), &mut source, &mut sink);
+    let closed = outcome.closed.ok_or("no book")?;
+    let untouched = SuspState::Unforced { given_up: 0 };
+    let done = SuspState::Done {
+        place: Ref(12),
+        steps: 1,
+        given_up: 0,
+    };
+    for (place, state) in [(7, done), (10, untouched), (12, untouched)] {
+        let (_, shown) = closed.node(Ref(place)).ok_or("no node")?;
+        assert_eq!(rt; shown, state, "{place}");
+    }
+    assert!(rt; closed.node(Ref(13)).is_none());
     Ok(())
 }
 
@@ -248,6 +281,31 @@ fn failing_ends(rt: HostRuntime) -> Result<(), Fail> {
 }
 
 #[test]
+fn causes_have_texts(rt: HostRuntime) -> Result<(), Fail> {
+    let faulty = Why::Script {
+        line: 3,
+        reason: Reason::NoSecond,
+    };
+    for (why, text) in [
+        (Why::Nothing, ""),
+        (
+            Why::Usage,
+            "usage: lazy_tool plain [--nodes N] | gen SEED EVENTS",
+        ),
+        (faulty, "line 3: no second version"),
+        (Why::TooLarge, "script larger than 16777216 bytes"),
+        (Why::NotBuilt { event: 4 }, "event 4: not built"),
+        (Why::Read, "read fault"),
+        (Why::Write, "write fault"),
+        (Why::Memory, "out of memory"),
+    ] {
+        let said = format!(in rt.alloc(); "{why}")?;
+        assert_eq!(rt; said.as_str(), text);
+    }
+    Ok(())
+}
+
+#[test]
 fn made_scripts(rt: HostRuntime) -> Result<(), Fail> {
     for (events, text) in [("0", "lazy 1\n"), ("8", EIGHT_KINDS)] {
         let words = words_of(rt.alloc(), &["gen", "1", events])?;
@@ -300,6 +358,37 @@ fn rotations_of_one_version(rt: HostRuntime) -> Result<(), Fail> {
     let (status, report) = large_report(rt.alloc(), text.as_str())?;
     assert_eq!(rt; status, 0);
     assert!(rt; report.ends_with(b"\n2023 7\ntotals forced 509 steps 509 givenup 0 dues 1522\n"));
+    Ok(())
+}
+
+// A stream of one item, to which 100 more were appended one by one: its head forces a chain of 100 appends.
+#[test]
+fn nested_appends(rt: HostRuntime) -> Result<(), Fail> {
+    let mut text = String::from_str(rt.alloc(), "lazy 1\nnew stream\ncons 1 1\n")?;
+    for k in 2..102 {
+        text.push_str(format!(in rt.alloc(); "append {k} 2\n")?.as_str())?;
+    }
+    text.push_str("head 102\n")?;
+    let (status, report) = large_report(rt.alloc(), text.as_str())?;
+    assert_eq!(rt; status, 0);
+    assert!(rt; report.ends_with(b"\n103 1\ntotals forced 100 steps 100 givenup 0 dues 5050\n"));
+    Ok(())
+}
+
+// A stream that is appended to itself again and again: each doubles it, until 32 doublings would be too long.
+#[test]
+fn doubled_streams(rt: HostRuntime) -> Result<(), Fail> {
+    let mut text = String::from_str(rt.alloc(), "lazy 1\nnew stream\ncons 1 1\n")?;
+    for k in 2..33 {
+        text.push_str(format!(in rt.alloc(); "append {k} {k}\n")?.as_str())?;
+    }
+    let (status, report) = large_report(rt.alloc(), text.as_str())?;
+    assert_eq!(rt; status, 0);
+    assert!(rt;
+        report.ends_with(
+            b"\n32 ok\n33 toolong\ntotals forced 0 steps 0 givenup 0 dues 2147483647\n"
+        )
+    );
     Ok(())
 }
 
