@@ -2,7 +2,7 @@
 -- these tables.
 use Rattle.std.specs.Prelude.{◌≡◌, ℕ, Bool, true, false, not, ◌&&◌, ◌||◌, List, Option, Some}
 use Rattle.lazy_rec.specs.declared.records.Rec.{Rec}
-use Rattle.lazy_rec.specs.declared.records.Rec.TheVariants.{Append, Reverse, BankRot, RtRot}
+use Rattle.lazy_rec.specs.declared.records.Rec.TheVariants.{Append, Reverse, BankRot, RtRot, HeapInsert, HeapMerge}
 use Rattle.lazy_rec.specs.declared.events.Kind.{Kind}
 use Rattle.lazy_rec.specs.declared.events.Kind.TheVariants as kinds
 use Rattle.lazy_rec.specs.declared.events.Op.{Op}
@@ -12,18 +12,18 @@ use Rattle.lazy_rec.specs.Kinds.{belongs, uses_base}
 use Rattle.lazy_rec.specs.History.{event_of, kind_of}
 use Rattle.heap_store.specs.declared.jobs.EventJob.{EventJob}
 use Rattle.heap_store.specs.World.{World, recs}
-use Rattle.heap_store.specs.Lawful.{is_any_bank_rotation, is_any_rt_rotation}
-use Rattle.heap_store.specs.OneStage.{nothing_told}
 use Rattle.lazy_stream.specs.Stream as stream
-use Rattle.lazy_stream.specs.Stream.{is_stream_work}
 use Rattle.bank_queue.specs.Queue as bank
 use Rattle.rt_queue.specs.Queue as real_time
+use Rattle.binom_heap.specs.Heap as heap
+use Rattle.binom_heap.specs.Work.{heap_told}
 
 -- the kinds that are built, with all their operations
 abbrev pub is_kind_built : Kind → Bool
 is_kind_built kinds.Stream = true
 is_kind_built kinds.Bankq = true
 is_kind_built kinds.Rtq = true
+is_kind_built kinds.Heap = true
 is_kind_built _ = false
 
 -- whether the operation of the kind is built: `new`, and those that the kind has
@@ -39,14 +39,18 @@ AreBuilt events = (i : ℕ) (e : Event) → event_of events i ≡ Some e → is_
 
 -- pending work of a kind that is built
 abbrev pub is_any_work : Rec → Bool
-is_any_work r = is_stream_work r || is_any_bank_rotation r || is_any_rt_rotation r
+is_any_work (Append _ _ _ _ _) = true
+is_any_work (Reverse _ _) = true
+is_any_work (BankRot _ _ _ _ _) = true
+is_any_work (RtRot _ _ _ _ _ _) = true
+is_any_work (HeapInsert _ _ _) = true
+is_any_work (HeapMerge _ _ _ _) = true
+is_any_work _ = false
 
--- what the prepare of pending work tells its build, by the work's record
+-- what the prepare of pending work tells its build, by the work's record; what has no line tells nothing but the number of places
 abbrev pub told_of : World → ℕ → ℕ → Option Rec → Type 0
-told_of w s nodes (Some (Append _ _ _ _ _)) = nothing_told w s nodes
-told_of w s nodes (Some (Reverse _ _)) = nothing_told w s nodes
-told_of w s nodes (Some (BankRot _ _ _ _ _)) = nothing_told w s nodes
-told_of w s nodes (Some (RtRot _ _ _ _ _ _)) = nothing_told w s nodes
+told_of w s nodes (Some (HeapInsert _ _ _)) = heap_told w s nodes
+told_of w s nodes (Some (HeapMerge _ _ _ _)) = heap_told w s nodes
 told_of w s nodes _ = Unit {0}
 
 abbrev pub told_by : World → ℕ → ℕ → Type 0
@@ -57,6 +61,7 @@ abbrev pub ready_of : Kind → World → EventJob → ℕ → Type 0
 ready_of kinds.Stream w job nodes = stream.IsReadyEvent w job nodes
 ready_of kinds.Bankq w job nodes = bank.IsReadyEvent w job nodes
 ready_of kinds.Rtq w job nodes = real_time.IsReadyEvent w job nodes
+ready_of kinds.Heap w job nodes = heap.IsReadyEvent w job nodes
 ready_of _ w job nodes = Unit {0}
 
 abbrev pub IsReadyEvent : World → EventJob → ℕ → Type 0

@@ -8,7 +8,7 @@ use lazy_rec::{Kind, Op};
 fn is_kind_built(kind: Kind) -> bool
     ensures { result ≡ is_kind_built kind }
 {
-    matches!(kind, Kind::Stream | Kind::Bankq | Kind::Rtq)
+    matches!(kind, Kind::Stream | Kind::Bankq | Kind::Rtq | Kind::Heap)
 }
 
 /// Whether the operation of the kind is built. An operation that the kind doesn't have isn't.

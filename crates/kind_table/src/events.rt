@@ -40,6 +40,7 @@ pub fn new_event<H: Heap>(h: &mut H, kind: Kind, run: &mut Run) -> Ref
         Kind::Stream => lazy_stream::new_stream(h, run),
         Kind::Bankq => bank_queue::new_queue(h, run),
         Kind::Rtq => rt_queue::new_queue(h, run),
+        Kind::Heap => binom_heap::new_heap(h, run),
         _ => unreachable!(),
     }
 }
@@ -55,6 +56,7 @@ pub fn prepare_event<H: Heap>(h: &mut H, job: &EventJob, cursor: &mut Cursor) ->
         Kind::Stream => lazy_stream::prepare_event(h, job, cursor),
         Kind::Bankq => bank_queue::prepare_event(h, job, cursor),
         Kind::Rtq => rt_queue::prepare_event(h, job, cursor),
+        Kind::Heap => binom_heap::prepare_event(h, job, cursor),
         _ => unreachable!(),
     }
 }
@@ -69,6 +71,7 @@ pub fn build_event<H: Heap>(h: &mut H, job: &EventJob, cursor: &Cursor, run: &mu
         Kind::Stream => lazy_stream::build_event(h, job, cursor, run),
         Kind::Bankq => bank_queue::build_event(h, job, cursor, run),
         Kind::Rtq => rt_queue::build_event(h, job, cursor, run),
+        Kind::Heap => binom_heap::build_event(h, job, cursor, run),
         _ => unreachable!(),
     }
 }

@@ -21,6 +21,7 @@ pub fn prepare<H: Heap>(rec: &Rec, h: &mut H, s: Ref, cursor: &mut Cursor) -> Pr
         Rec::Append { .. } | Rec::Reverse { .. } => lazy_stream::prepare(rec, h, s, cursor),
         Rec::BankRot { .. } => bank_queue::prepare(rec, h, s, cursor),
         Rec::RtRot { .. } => rt_queue::prepare(rec, h, s, cursor),
+        Rec::HeapInsert { .. } | Rec::HeapMerge { .. } => binom_heap::prepare(rec, h, s, cursor),
         _ => unreachable!(),
     }
 }
@@ -37,6 +38,7 @@ pub fn build<H: Heap>(rec: &Rec, h: &mut H, s: Ref, cursor: &Cursor, run: &mut R
         Rec::Append { .. } | Rec::Reverse { .. } => lazy_stream::build(rec, h, s, cursor, run),
         Rec::BankRot { .. } => bank_queue::build(rec, h, s, cursor, run),
         Rec::RtRot { .. } => rt_queue::build(rec, h, s, cursor, run),
+        Rec::HeapInsert { .. } | Rec::HeapMerge { .. } => binom_heap::build(rec, h, s, cursor, run),
         _ => unreachable!(),
     }
 }

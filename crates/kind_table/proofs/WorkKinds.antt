@@ -1,0 +1,81 @@
+-- One kind's pending work as work of any kind.
+use Rattle.std.proofs.Common.{◌≡◌, ℕ, refl, sym, Bool, true, Some}
+use Rattle.std.proofs.lemmas.Bool.{true≢false, and_parts, and_from}
+use Rattle.lazy_rec.specs.declared.records.Rec.{Rec}
+use Rattle.lazy_rec.specs.declared.records.Rec.TheVariants.{Append, Reverse, BankRot, RtRot}
+use Rattle.lazy_rec.specs.Named.{is_pending}
+use Rattle.heap_store.specs.declared.jobs.Prep.{Prep}
+use Rattle.heap_store.specs.declared.jobs.Prep.TheVariants.{Need, Ready}
+use Rattle.heap_store.specs.World.{World, recs}
+use Rattle.heap_store.specs.Lawful.{is_any_bank_rotation, is_any_rt_rotation}
+use Rattle.heap_store.specs.OneStage.{nothing_told}
+use Rattle.heap_store.specs.Jobs.{Readiness, Prepared}
+use Rattle.lazy_stream.specs.Stream.{is_stream_work}
+use Rattle.kind_table.specs.Kinds.{is_any_work, told_of, told_by}
+
+-- the kind's work is some kind's, and what its prepare tells of a record is what that of any kind tells
+pub record IsKind (mine : Rec → Bool) (told : Readiness) : Type 0 where
+  pub work : (r : Rec) → mine r ≡ true → is_any_work r ≡ true
+  pub tells : (w : World) (s nodes : ℕ) (r : Rec) → mine r ≡ true → told w s nodes → told_of w s nodes (Some r)
+
+-- a need of one kind is a need of any
+pub any_prepared : {mine : Rec → Bool} {told : Readiness} → IsKind mine told → (w : World) (s : ℕ) (r : Rec) → recs w s ≡ Some r → mine r ≡ true → (p : Prep) → Prepared mine told w s p → Prepared is_any_work told_by w s p
+any_prepared {mine} kind w s r e is (Need t) k =
+    let there = k.there in
+    let both = and_parts (is_pending k.other) (mine k.other) (rw there at k.work) in
+    record {
+      rec = k.rec;
+      here = k.here;
+      need = k.need;
+      other = k.other;
+      there = there;
+      work = rw there (and_from (is_pending k.other) (is_any_work k.other) both.0 (kind.work k.other both.1));
+      lower = k.lower;
+      not_done = k.not_done;
+      funded = k.funded;
+    }
+any_prepared kind w s r e is (Ready nodes) k = record {
+  rec = k.rec;
+  here = k.here;
+  needs = k.needs;
+  told = rw e (kind.tells w s nodes r is k.told);
+  most = k.most;
+  exact = k.exact;
+}
+
+-- ---- the kinds that tell nothing
+
+pub streams : IsKind is_stream_work nothing_told
+streams = record { work = works; tells = tells }
+  where
+    works : (r : Rec) → is_stream_work r ≡ true → is_any_work r ≡ true
+    works (Append _ _ _ _ _) h = refl
+    works (Reverse _ _) h = refl
+    works _ h = absurd (true≢false (sym h))
+
+    tells : (w : World) (s nodes : ℕ) (r : Rec) → is_stream_work r ≡ true → nothing_told w s nodes → told_of w s nodes (Some r)
+    tells w s nodes (Append _ _ _ _ _) h t = t
+    tells w s nodes (Reverse _ _) h t = t
+    tells w s nodes _ h t = absurd (true≢false (sym h))
+
+pub bank_queues : IsKind is_any_bank_rotation nothing_told
+bank_queues = record { work = works; tells = tells }
+  where
+    works : (r : Rec) → is_any_bank_rotation r ≡ true → is_any_work r ≡ true
+    works (BankRot _ _ _ _ _) h = refl
+    works _ h = absurd (true≢false (sym h))
+
+    tells : (w : World) (s nodes : ℕ) (r : Rec) → is_any_bank_rotation r ≡ true → nothing_told w s nodes → told_of w s nodes (Some r)
+    tells w s nodes (BankRot _ _ _ _ _) h t = t
+    tells w s nodes _ h t = absurd (true≢false (sym h))
+
+pub rt_queues : IsKind is_any_rt_rotation nothing_told
+rt_queues = record { work = works; tells = tells }
+  where
+    works : (r : Rec) → is_any_rt_rotation r ≡ true → is_any_work r ≡ true
+    works (RtRot _ _ _ _ _ _) h = refl
+    works _ h = absurd (true≢false (sym h))
+
+    tells : (w : World) (s nodes : ℕ) (r : Rec) → is_any_rt_rotation r ≡ true → nothing_told w s nodes → told_of w s nodes (Some r)
+    tells w s nodes (RtRot _ _ _ _ _ _) h t = t
+    tells w s nodes _ h t = absurd (true≢false (sym h))

@@ -1,0 +1,12 @@
+use Rattle.kind_table.proofs.WorkKinds.{any_prepared, streams, bank_queues, rt_queues}
+use Rattle.std.proofs.Common.{rules}
+use Rattle.kind_table.proofs.work.prepare.Goals as goal
+
+pub returns-in-Append-clause-answer : goal.returns-in-Append-clause-answer
+returns-in-Append-clause-answer g c = any_prepared streams _ c.args.s.0 c.args.rec.now (c.prepare.ensures.quiet.grows.records _ _ c.requires.rec) (search rules) c.prepare.result c.prepare.ensures.answer
+
+pub returns-in-BankRot-clause-answer : goal.returns-in-BankRot-clause-answer
+returns-in-BankRot-clause-answer g c = any_prepared bank_queues _ c.args.s.0 c.args.rec.now (c.prepare-in-BankRot.ensures.quiet.grows.records _ _ c.requires.rec) (search rules) c.prepare-in-BankRot.result c.prepare-in-BankRot.ensures.answer
+
+pub returns-in-RtRot-clause-answer : goal.returns-in-RtRot-clause-answer
+returns-in-RtRot-clause-answer g c = any_prepared rt_queues _ c.args.s.0 c.args.rec.now (c.prepare-in-RtRot.ensures.quiet.grows.records _ _ c.requires.rec) (search rules) c.prepare-in-RtRot.result c.prepare-in-RtRot.ensures.answer
