@@ -25,5 +25,5 @@ pub mod Least
 pub mod EventPaid
 pub mod Dropping
 pub mod Removing
-pub mod Joins
+pub mod Sides
 pub mod Removed

@@ -5,7 +5,6 @@ use Rattle.std.proofs.lemmas.Bool.{or_left, or_right, cond-true, cond-false, eq-
 use Rattle.lazy_rec.specs.declared.places.Ref.{Ref}
 use Rattle.lazy_rec.specs.declared.records.Rec.TheVariants.{TNil, HeapMerge}
 use Rattle.lazy_rec.specs.Named.{is_pending}
-use Rattle.lazy_rec.specs.Numbers.{bits}
 use Rattle.lazy_rec.specs.Meaning.{means}
 use Rattle.lazy_rec.specs.Plain.{rising}
 use Rattle.lazy_rec.specs.Units.{paid}
@@ -25,12 +24,12 @@ use Rattle.heap_store.proofs.FixedPlaces.{fixed_records, above_fixed}
 use Rattle.heap_store.proofs.FillLaws.{Filled_trans}
 use Rattle.binom_heap.specs.declared.heap.Top.{Top}
 use Rattle.binom_heap.specs.Laying.{Puts}
-use Rattle.binom_heap.specs.Heap.{top_record, IsNewTop, IsTop, meld_places, MayMeld, Melded}
+use Rattle.binom_heap.specs.Heap.{top_record, IsNewTop, IsShownTop, meld_places, meld_price, MayMeld, Melded}
 use Rattle.binom_heap.proofs.ListUnits.{list_units_is}
 use Rattle.binom_heap.proofs.ListValues.{ListAt, list_there}
 use Rattle.binom_heap.proofs.RunLaws.{puts_none, puts_put, next_held}
-use Rattle.binom_heap.proofs.Tops.{old_top, at_order, new_top, empty_list, fits_merge}
-use Rattle.binom_heap.proofs.TopGains.{again_gain, meld_gain}
+use Rattle.binom_heap.proofs.Tops.{old_top, at_order, new_list, new_top, empty_list, fits_merge}
+use Rattle.binom_heap.proofs.TopGains.{top_shown, shown_up, shown_gain, meld_gain}
 
 -- ---- the empty heap
 
@@ -54,24 +53,24 @@ list_raise le k = record { named = (omega (arith, k.named.0, le), k.named.1, k.n
 pub means_up : {a b : World} {p list size : ℕ} → IsLawful a → Grows a b → ListAt a p list size → means (recs b) list ≡ means (recs a) list
 means_up {a} {b} {p} {list} law x k = sym (means_kept (recs a) (recs b) (lawful_names law) x.records list (list_there k))
 
--- a published top may be published again
-pub again_new : {w : World} {t : Top} {place : ℕ} → IsLawful w → IsTop w t place → IsNewTop w t place
-again_new {w} {t} law k =
-    let o = old_top law k.root t k.here in
-    new_top (list_raise (omega (arith, k.low)) o.list) o.owed o.newest
+-- a published top may be published again, and shows nothing new
+pub again_top : {w : World} → IsLawful w → (root : ℕ) (t : Top) → recs w root ≡ Some (top_record t) → (place : ℕ) → root < place → IsShownTop w t place
+again_top {w} law root t e place low =
+    let o = old_top law root t e in
+    record { top = new_top (list_raise (omega (arith, low)) o.list) o.owed o.newest; shown = top_shown w place root t e }
 
 pub no_items : {w : World} {p list : ℕ} → ListAt w p list 0 → means (recs w) list ≡ []
 no_items {w} {p} {list} k = nil_from_length (means (recs w) list) (sym k.size_is)
 
 -- what a meld with an empty side makes
 module _ {v new : View} (law : IsLawfulView v) (law' : IsLawfulView new) (run run' : Span) (first second : Top) (k : MayMeld v run first second) (place : ℕ) (filled : Filled v new run.next run.end) (spent : run'.next ≡ run'.end) where
-  first_list : ListAt v.seen k.first_is.root first.list.0 first.size
-  first_list = (old_top law.world k.first_is.root first k.first_is.here).list
+  first_list : ListAt v.seen run.next first.list.0 first.size
+  first_list = new_list k.first_is.top
 
-  second_list : ListAt v.seen k.second_is.root second.list.0 second.size
-  second_list = (old_top law.world k.second_is.root second k.second_is.here).list
+  second_list : ListAt v.seen run.next second.list.0 second.size
+  second_list = new_list k.second_is.top
 
-  again_melded : (t : Top) → recs new.seen place ≡ Some (top_record t) → means (recs new.seen) t.list.0 ≡ rising (means (recs v.seen) first.list.0 ++ means (recs v.seen) second.list.0) → v.hand.credits ≤ new.hand.credits + gain_at v.seen run.next (top_record t) → gain_at v.seen run.next (top_record t) ≤ bits first.size + bits second.size + 1 → Melded v new run run' first second place
+  again_melded : (t : Top) → recs new.seen place ≡ Some (top_record t) → means (recs new.seen) t.list.0 ≡ rising (means (recs v.seen) first.list.0 ++ means (recs v.seen) second.list.0) → v.hand.credits ≤ new.hand.credits + gain_at v.seen run.next (top_record t) → gain_at v.seen run.next (top_record t) ≤ 0 → Melded v new run run' first second place
   again_melded t e m credits gain = record {
     filled = filled;
     spent = spent;
@@ -84,22 +83,22 @@ module _ {v new : View} (law : IsLawfulView v) (law' : IsLawfulView new) (run ru
   first_empty z e credits =
       let none = no_items (rw z at first_list) in
       let all : rising (means (recs v.seen) first.list.0 ++ means (recs v.seen) second.list.0) ≡ means (recs v.seen) second.list.0 = rw none (at_order law.world second_list) in
-      again_melded second e (means_up law.world filled.grows second_list ∙ sym all) credits (omega (arith, again_gain v.seen run.next k.second_is.root second k.second_is.here))
+      again_melded second e (means_up law.world filled.grows second_list ∙ sym all) credits (shown_gain v.seen run.next second k.second_is.shown)
 
   pub second_empty : second.size ≡ 0 → recs new.seen place ≡ Some (top_record first) → v.hand.credits ≤ new.hand.credits + gain_at v.seen run.next (top_record first) → Melded v new run run' first second place
   second_empty z e credits =
       let none = no_items (rw z at second_list) in
       let all : rising (means (recs v.seen) first.list.0 ++ means (recs v.seen) second.list.0) ≡ means (recs v.seen) first.list.0 = rw (none, append-nil (means (recs v.seen) first.list.0)) (at_order law.world first_list) in
-      again_melded first e (means_up law.world filled.grows first_list ∙ sym all) credits (omega (arith, again_gain v.seen run.next k.first_is.root first k.first_is.here))
+      again_melded first e (means_up law.world filled.grows first_list ∙ sym all) credits (shown_gain v.seen run.next first k.first_is.shown)
 
 -- ---- a suspended merge
 
 module _ {v : View} (law : IsLawfulView v) (run : Span) (first second : Top) (k : MayMeld v run first second) where
   list1 : ListAt v.seen run.next first.list.0 first.size
-  list1 = list_raise (omega (arith, k.first_is.low)) (old_top law.world k.first_is.root first k.first_is.here).list
+  list1 = new_list k.first_is.top
 
   list2 : ListAt v.seen run.next second.list.0 second.size
-  list2 = list_raise (omega (arith, k.second_is.low)) (old_top law.world k.second_is.root second k.second_is.here).list
+  list2 = new_list k.second_is.top
 
   pub merge_fits : run.next < run.end → Fits v run.next (HeapMerge first.list second.list first.size second.size)
   merge_fits left = fits_merge law run.next (next_held k.held left) first.list second.list first.size second.size list1 list2
@@ -130,8 +129,11 @@ module _ {v : View} (law : IsLawfulView v) (run : Span) (first second : Top) (k 
         let e = here in
         new_top (record { named = (rw (at1, list_is) (omega arith), HeapMerge first.list second.list first.size second.size, here, refl); list_is = or_left (holds (recs v1.seen) list.0 is_pending) (is_tree_list (recs v1.seen) list.0) (rw e refl); size_is = merge_size; fits = omega (arith, k.fits) }) (omega arith) (omega arith)
 
-    pub merge_pays : gain_at v1.seen run1.next (top_record merged) ≤ bits first.size + bits second.size + 1
-    merge_pays = meld_gain law1.world run1.next k.first_is.root k.second_is.root first second list (first.size + second.size) (p.grows.records _ _ k.first_is.here) (p.grows.records _ _ k.second_is.here) here
+    pub merge_pays : gain_at v1.seen run1.next (top_record merged) ≤ meld_price first second
+    merge_pays =
+        let s1 = shown_up law.world p.grows run.next first (list_there list1) k.first_is.shown in
+        let s2 = shown_up law.world p.grows run.next second (list_there list2) k.second_is.shown in
+        meld_gain law1.world run1.next run.next first second list (first.size + second.size) s1 s2 here
 
     pub merge_melded : {v2 : View} → IsLawfulView v2 → (run2 : Span) (place : ℕ) → run1.next + 1 ≡ run1.end → Filled v1 v2 run1.next run1.end → run2.next ≡ run2.end → recs v2.seen place ≡ Some (top_record merged) → v1.hand.credits ≤ v2.hand.credits + gain_at v1.seen run1.next (top_record merged) → Melded v v2 run run2 first second place
     merge_melded {v2} law2 run2 place whole filled spent e credits =

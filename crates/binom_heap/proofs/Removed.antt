@@ -29,7 +29,7 @@ use Rattle.binom_heap.specs.declared.heap.Top.{Top}
 use Rattle.binom_heap.specs.declared.removal.LeastTree.{LeastTree}
 use Rattle.binom_heap.specs.Trees.{weight}
 use Rattle.binom_heap.specs.Laying.{IsList, Laid}
-use Rattle.binom_heap.specs.Heap.{meld_places, removal_places, paid_places, looks_at_trees, IsSide, MayJoin}
+use Rattle.binom_heap.specs.Heap.{meld_places, meld_price, removal_places, paid_places, looks_at_trees, IsShownTop, MayMeld}
 use Rattle.binom_heap.specs.Removal.{Least, least_of, without_tree, turned, tree_count, IsFound, IsLeast, MayDrop, MayTurn}
 use Rattle.binom_heap.proofs.ForestItems.{items, rising_left, rising_right, rising_swap}
 use Rattle.binom_heap.proofs.TreeLaws.{forest_is, trees_only_is}
@@ -38,6 +38,7 @@ use Rattle.binom_heap.proofs.Linking.{forest_up, list_up}
 use Rattle.binom_heap.proofs.RunLaws.{next_held, puts_trans}
 use Rattle.binom_heap.proofs.ShapeLaws.{fall_weight}
 use Rattle.binom_heap.proofs.Melds.{some_place}
+use Rattle.binom_heap.proofs.Sides.{side_top}
 use Rattle.binom_heap.proofs.Tops.{old_top}
 use Rattle.binom_heap.proofs.EventTops.{heap_end}
 use Rattle.binom_heap.proofs.EventPaid.{PaidTop}
@@ -207,29 +208,27 @@ module _ {v : View} (law : IsLawfulView v) (run : Span) (trees n : ℕ) (t : Lea
           pow_same : 2 ^ t.tree.rank ≡ 2 ^ f.l.rank
           pow_same = ap (λ i. 2 ^ i) f.found.rank
 
-      rest_side : IsSide v2.seen rest_top run2.next
+      rest_list : IsList v2.seen rest.0 run2.next
+      rest_list = list_up {a = v1.seen} {p = run1.next} law1.world e.puts.filled.grows (omega (arith, e.puts.next)) d.list
+
+      rest_side : IsShownTop v2.seen rest_top run2.next
       rest_side =
           let s = rest_forest in
-          record {
-            list = list_up {a = v1.seen} {p = run1.next} law1.world e.puts.filled.grows (omega (arith, e.puts.next)) d.list;
-            rise = rw s (without_rises 0 f.l.before (forest (recs v.seen) trees) k.rise);
-            weight_is = rw s rest_weight;
-            none = refl;
-          }
+          side_top law2.world rest_top run2.next rest_list (rw s (without_rises 0 f.l.before (forest (recs v.seen) trees) k.rise)) (rw s rest_weight) (omega (arith, k.few)) refl
 
-      kids_side : IsSide v2.seen kids_top run2.next
+      kids_side : IsShownTop v2.seen kids_top run2.next
       kids_side =
           let s = kids_forest in
-          record { list = e.list; rise = rw s (turned_rises f.l.rank f.l.kids no_trees f.fall refl); weight_is = rw s kids_weight; none = refl }
+          side_top law2.world kids_top run2.next e.list (rw s (turned_rises f.l.rank f.l.kids no_trees f.fall refl)) (rw s kids_weight) (omega (arith, k.few, full_is, f.parts.most)) refl
 
       e_next : run2.next ≡ run.next + (t.before + t.tree.rank)
       e_next = let s = kids_same in let z : tree_count (forest (recs v1.seen) t.tree.kids.0) ≡ t.tree.rank = rw s kids_count in omega (arith, e.puts.next, d.puts.next, z)
 
-      parts_cost : 1 + ones (n - full) + ones (full - 1) ≤ ones n + bits n
+      parts_cost : meld_price rest_top kids_top ≤ ones n + bits n
       parts_cost = let p = f.parts in let s = full_is in rw s (omega (arith, p.rest, p.kids, p.low))
 
-      pub join_asks : MayJoin v2 run2 rest_top kids_top
-      join_asks = record {
+      pub meld_asks : MayMeld v2 run2 rest_top kids_top
+      meld_asks = record {
         held = e.puts.held;
         first_is = rest_side;
         second_is = kids_side;
@@ -245,8 +244,8 @@ module _ {v : View} (law : IsLawfulView v) (run : Span) (trees n : ℕ) (t : Lea
       joined_items =
           let wo = items (without_tree f.l.before (forest (recs v.seen) trees)) in
           let ks = items f.l.kids in
-          let a : means (recs v2.seen) rest.0 ≡ rising wo = trees_means law2.world rest.0 rest_side.list.trees ∙ ap (λ z. rising (items z)) rest_forest in
-          let b : means (recs v2.seen) kids.0 ≡ rising ks = trees_means law2.world kids.0 kids_side.list.trees ∙ (ap (λ z. rising (items z)) kids_forest ∙ (turned_items f.l.kids no_trees ∙ ap rising (append-nil ks))) in
+          let a : means (recs v2.seen) rest.0 ≡ rising wo = trees_means law2.world rest.0 rest_list.trees ∙ ap (λ z. rising (items z)) rest_forest in
+          let b : means (recs v2.seen) kids.0 ≡ rising ks = trees_means law2.world kids.0 e.list.trees ∙ (ap (λ z. rising (items z)) kids_forest ∙ (turned_items f.l.kids no_trees ∙ ap rising (append-nil ks))) in
           rw (a, b) (rising_left wo (rising ks) ∙ (rising_right wo ks ∙ rising_swap wo ks))
 
       pub removal_filled : {v3 : View} → Filled v2 v3 run2.next run2.end → Filled v v3 run.next run.end
@@ -256,7 +255,7 @@ module _ {v : View} (law : IsLawfulView v) (run : Span) (trees n : ℕ) (t : Lea
           let same : run2.end ≡ run.end = e.puts.same_end ∙ d.puts.same_end in
           rw same at all
 
-      pub removal_credits : (left : ℕ) → v2.hand.credits ≤ left + (1 + ones (n - full) + ones (full - 1)) → v.hand.credits ≤ left + (ones n + bits n)
+      pub removal_credits : (left : ℕ) → v2.hand.credits ≤ left + meld_price rest_top kids_top → v.hand.credits ≤ left + (ones n + bits n)
       removal_credits left c = omega (arith, c, parts_cost, d.puts.credits, e.puts.credits)
 
 -- ---- what a delmin ends with

@@ -1,5 +1,5 @@
 -- What the tops of heaps show first: Okasaki's debit law of lazy binomial heaps (6.4.1).
-use Rattle.std.proofs.Common.{◌≡◌, ℕ, zero, suc, ◌+◌, ◌-◌, ◌≤◌, refl, sym, ap, ◌∙◌, arith, Bool, true, false, cond, not, Some, List, [], ◌∷◌, ◌++◌, length, take}
+use Rattle.std.proofs.Common.{◌≡◌, ℕ, zero, suc, ◌+◌, ◌-◌, ◌≤◌, refl, sym, ap, subst, ◌∙◌, arith, Bool, true, false, cond, not, Some, List, [], ◌∷◌, ◌++◌, length, take}
 use Rattle.std.specs.List.{list_all}
 use Rattle.std.specs.Set.{is_member}
 use Rattle.std.proofs.lemmas.Map.Made.{distinct_count-le}
@@ -10,16 +10,19 @@ use Rattle.lazy_rec.specs.declared.places.Item.{Item}
 use Rattle.lazy_rec.specs.declared.records.Rec.{Rec}
 use Rattle.lazy_rec.specs.declared.records.Rec.TheVariants.{HeapTop, HeapInsert, HeapMerge}
 use Rattle.lazy_rec.specs.Numbers.{bits, ones, zeros, trailing_ones}
-use Rattle.lazy_rec.specs.Units.{WorkUnit, same_unit, units_below, list_units, steps}
+use Rattle.lazy_rec.specs.Units.{WorkUnit, same_unit, units_below, list_units, steps, paid}
 use Rattle.heap_store.specs.World.{World, recs}
+use Rattle.heap_store.specs.Growth.{Grows}
 use Rattle.heap_store.specs.Lawful.{IsLawful}
-use Rattle.heap_store.specs.Budget.{all_discharged, gain_at, unit_count, units_beyond, is_funded}
+use Rattle.heap_store.specs.Budget.{all_discharged, are_discharged, gain_at, unit_count, units_beyond, is_funded}
 use Rattle.heap_store.proofs.LawfulLaws.{lawful_names, within}
-use Rattle.heap_store.proofs.UnitLaws.{discharged_has, run_in, member_from}
+use Rattle.heap_store.proofs.UnitLaws.{discharged_has, are_discharged_up, run_in, member_from}
 use Rattle.heap_store.proofs.FamilyUnits.{length-units}
+use Rattle.heap_store.proofs.NameLaws.{IsPublished}
+use Rattle.heap_store.proofs.GainLaws.{paid_kept}
 use Rattle.binom_heap.specs.declared.heap.Top.{Top}
 use Rattle.binom_heap.specs.Work.{is_heap_work}
-use Rattle.binom_heap.specs.Heap.{top_record, owed_after}
+use Rattle.binom_heap.specs.Heap.{top_record, owed_after, meld_price}
 use Rattle.binom_heap.proofs.BinaryLaws.{ones_most}
 use Rattle.binom_heap.proofs.ListUnits.{list_units_is, in_right}
 use Rattle.binom_heap.proofs.Tops.{old_top}
@@ -86,11 +89,22 @@ pay_gain {w} law p q t e =
     let g = owed_gain w p q t.list t.list t.size t.size t.owed 0 [] e (sym (append-nil (list_units (recs w) t.list.0))) in
     omega (arith, g, (old_top law q t e).owed)
 
--- the same top shows nothing new
-pub again_gain : (w : World) (p q : ℕ) (t : Top) → recs w q ≡ Some (top_record t) → gain_at w p (top_record t) ≤ 0
-again_gain w p q t e =
-    let g = owed_gain w p q t.list t.list t.size t.size t.owed t.owed [] e (sym (append-nil (list_units (recs w) t.list.0))) in
-    omega (arith, g)
+-- ---- tops that show nothing new
+
+-- what is published is shown
+pub top_shown : (w : World) (p q : ℕ) (t : Top) → recs w q ≡ Some (top_record t) → are_discharged w (paid (recs w) p (top_record t)) ≡ true
+top_shown w p q t e = all_shown (all_discharged w) (paid (recs w) p (top_record t)) (λ u m. discharged_has (recs w) (length w.nodes) q _ e (within w q _ e) u m)
+
+-- what is shown stays so
+pub shown_up : {a b : World} → IsLawful a → Grows a b → (p : ℕ) (t : Top) → IsPublished (recs a) t.list.0 → are_discharged a (paid (recs a) p (top_record t)) ≡ true → are_discharged b (paid (recs b) p (top_record t)) ≡ true
+shown_up {a} {b} law x p t is h =
+    subst (λ us. are_discharged b us ≡ true) (paid_kept (recs a) (recs b) (lawful_names law) x.records p (top_record t) (is, tt)) (are_discharged_up a b (lawful_names law) x.records (paid (recs a) p (top_record t)) h)
+
+pub shown_gain : (w : World) (p : ℕ) (t : Top) → are_discharged w (paid (recs w) p (top_record t)) ≡ true → gain_at w p (top_record t) ≤ 0
+shown_gain w p t h =
+    let us = list_units (recs w) t.list.0 in
+    let k = length us - t.owed in
+    omega (arith, beyond_take (all_discharged w) us k k h)
 
 -- ---- melds
 
@@ -120,17 +134,16 @@ lacks_last seen (u ∷ us) (suc k) h =
     let ih = lacks_last seen us k p.1 in
     rw here (omega (arith, ih))
 
--- what a published top owes of its list
-pub top_lacks : {w : World} → IsLawful w → (q : ℕ) (t : Top) → recs w q ≡ Some (top_record t) → length (units_beyond (all_discharged w) (list_units (recs w) t.list.0)) ≤ zeros t.size
-top_lacks {w} law q t e =
+-- of its list a top that is shown lacks what it owes
+top_lacks : (w : World) (p : ℕ) (t : Top) → are_discharged w (paid (recs w) p (top_record t)) ≡ true → length (units_beyond (all_discharged w) (list_units (recs w) t.list.0)) ≤ t.owed
+top_lacks w p t h =
     let us = list_units (recs w) t.list.0 in
-    let seen = all_shown (all_discharged w) (take (length us - t.owed) us) (λ u m. discharged_has (recs w) (length w.nodes) q _ e (within w q _ e) u m) in
-    omega (arith, lacks_last (all_discharged w) us (length us - t.owed) seen, (old_top law q t e).owed)
+    omega (arith, lacks_last (all_discharged w) us (length us - t.owed) h)
 
--- the top of a merge, which owes nothing, shows its own units and what both others owe
-pub meld_gain : {w : World} → IsLawful w → (p q1 q2 : ℕ) (t1 t2 : Top) (list' : Ref) (size' : ℕ) → recs w q1 ≡ Some (top_record t1) → recs w q2 ≡ Some (top_record t2) → recs w list'.0 ≡ Some (HeapMerge t1.list t2.list t1.size t2.size)
-    → gain_at w p (HeapTop list' size' 0) ≤ bits t1.size + bits t2.size + 1
-meld_gain {w} law p q1 q2 t1 t2 list' size' e1 e2 f =
+-- the top of a merge, which owes nothing, shows the merge's own units and what both others owe
+pub meld_gain : {w : World} → IsLawful w → (p q : ℕ) (t1 t2 : Top) (list' : Ref) (size' : ℕ) → are_discharged w (paid (recs w) q (top_record t1)) ≡ true → are_discharged w (paid (recs w) q (top_record t2)) ≡ true → recs w list'.0 ≡ Some (HeapMerge t1.list t2.list t1.size t2.size)
+    → gain_at w p (HeapTop list' size' 0) ≤ meld_price t1 t2
+meld_gain {w} law p q t1 t2 list' size' h1 h2 f =
     let seen = all_discharged w in
     let us1 = list_units (recs w) t1.list.0 in
     let us2 = list_units (recs w) t2.list.0 in
@@ -141,28 +154,17 @@ meld_gain {w} law p q1 q2 t1 t2 list' size' e1 e2 f =
     let d = distinct_count-le same_unit (units_beyond seen (list_units (recs w) list'.0)) in
     let a1 = lacks_append seen (us1 ++ us2) own in
     let a2 = lacks_append seen us1 us2 in
-    let l1 = top_lacks law q1 t1 e1 in
-    let l2 = top_lacks law q2 t2 e2 in
+    let l1 = top_lacks w q t1 h1 in
+    let l2 = top_lacks w q t2 h2 in
     let m = lacks_most seen own in
     let n = length-units list'.0 0 c in
-    let b : length (units_beyond seen (list_units (recs w) list'.0)) ≤ bits t1.size + bits t2.size + 1 = rw all (omega (arith, a1, a2, l1, l2, m, n, ones_most t1.size, ones_most t2.size)) in
-    let k : unit_count (units_beyond seen (list_units (recs w) list'.0)) ≤ bits t1.size + bits t2.size + 1 = omega (arith, d, b) in
+    let b : length (units_beyond seen (list_units (recs w) list'.0)) ≤ meld_price t1 t2 = rw all (omega (arith, a1, a2, l1, l2, m, n)) in
+    let k : unit_count (units_beyond seen (list_units (recs w) list'.0)) ≤ meld_price t1 t2 = omega (arith, d, b) in
     rw shown k
 
--- the top of a merge of lists that have no units shows the merge's own
-pub join_gain : {w : World} → IsLawful w → (p : ℕ) (t1 t2 : Top) (list' : Ref) (size' : ℕ) → list_units (recs w) t1.list.0 ≡ [] → list_units (recs w) t2.list.0 ≡ [] → recs w list'.0 ≡ Some (HeapMerge t1.list t2.list t1.size t2.size)
-    → gain_at w p (HeapTop list' size' 0) ≤ 1 + ones t1.size + ones t2.size
-join_gain {w} law p t1 t2 list' size' e1 e2 f =
-    let seen = all_discharged w in
-    let c = 1 + ones t1.size + ones t2.size in
-    let own = units_below list'.0 c in
-    let whole : list_units (recs w) list'.0 ≡ (list_units (recs w) t1.list.0 ++ list_units (recs w) t2.list.0) ++ own = list_units_is (recs w) (lawful_names law) list'.0 _ f in
-    let all : list_units (recs w) list'.0 ≡ own = rw (e1, e2) at whole in
-    let shown : take (length (list_units (recs w) list'.0) - 0) (list_units (recs w) list'.0) ≡ list_units (recs w) list'.0 = take_all (length (list_units (recs w) list'.0) - 0) (list_units (recs w) list'.0) (omega arith) in
-    let d = distinct_count-le same_unit (units_beyond seen (list_units (recs w) list'.0)) in
-    let b : length (units_beyond seen (list_units (recs w) list'.0)) ≤ c = rw all (omega (arith, lacks_most seen own, length-units list'.0 0 c)) in
-    let k : unit_count (units_beyond seen (list_units (recs w) list'.0)) ≤ c = omega (arith, d, b) in
-    rw shown k
+-- which is at most what the due of a meld pays
+pub price_most : {w : World} → IsLawful w → (p q : ℕ) (t u : Top) → recs w p ≡ Some (top_record t) → recs w q ≡ Some (top_record u) → meld_price t u ≤ bits t.size + bits u.size + 1
+price_most law p q t u e f = omega (arith, (old_top law p t e).owed, (old_top law q u f).owed, ones_most t.size, ones_most u.size)
 
 -- ---- a list that a paid top shows
 

@@ -7,24 +7,24 @@ use Rattle.lazy_rec.specs.declared.events.Kind.TheVariants as kinds
 use Rattle.lazy_rec.specs.declared.events.Op.{Op}
 use Rattle.lazy_rec.specs.declared.events.Op.TheVariants as ops
 use Rattle.lazy_rec.specs.Named.{sort_of, same_sort}
-use Rattle.lazy_rec.specs.Numbers.{bits, ones, zeros, trailing_ones}
+use Rattle.lazy_rec.specs.Numbers.{ones, zeros, trailing_ones}
 use Rattle.lazy_rec.specs.Meaning.{means}
 use Rattle.lazy_rec.specs.Plain.{rising, most_items}
+use Rattle.lazy_rec.specs.Units.{paid}
 use Rattle.heap_store.specs.declared.jobs.EventJob.{EventJob}
 use Rattle.heap_store.specs.declared.jobs.Stage.{Stage}
 use Rattle.heap_store.specs.declared.jobs.Stage.TheVariants.{Start, HeapPaid, Parts, Root}
 use Rattle.heap_store.specs.declared.jobs.After.{After}
 use Rattle.heap_store.specs.declared.jobs.After.TheVariants.{End, Next}
 use Rattle.heap_store.specs.World.{World, recs, holds, is_value}
-use Rattle.heap_store.specs.Forest.{Forest, forest, ranks_rise}
+use Rattle.heap_store.specs.Forest.{Forest, forest}
 use Rattle.heap_store.specs.Lawful.{is_heap_list, insert_steps, is_root}
 use Rattle.heap_store.specs.Span.{Span}
 use Rattle.heap_store.specs.Hand.{IsInHand}
+use Rattle.heap_store.specs.Budget.{are_discharged}
 use Rattle.heap_store.specs.View.{View}
 use Rattle.heap_store.specs.Jobs.{Filled}
 use Rattle.binom_heap.specs.declared.heap.Top.{Top}
-use Rattle.binom_heap.specs.Trees.{weight}
-use Rattle.binom_heap.specs.Laying.{IsList}
 use Rattle.binom_heap.specs.Removal.{Least, least_of}
 
 -- the record of a top
@@ -58,20 +58,23 @@ start_places ops.Min n m = cond (eqb n 0) 0 1
 start_places ops.Delmin n m = cond (eqb n 0) 0 1
 start_places _ n m = 0
 
--- a top at a place below another one
-pub record IsTop (w : World) (t : Top) (place : ℕ) : Type 0 where
-  pub root : ℕ
-  pub here : recs w root ≡ Some (top_record t)
-  pub low : root < place
+-- a top that may be published below a place, and that shows nothing there which isn't shown already
+pub record IsShownTop (w : World) (t : Top) (place : ℕ) : Type 0 where
+  pub top : IsNewTop w t place
+  pub shown : are_discharged w (paid (recs w) place (top_record t)) ≡ true
+
+-- what the top of two melded heaps may cost: the steps of their merge, and what both still owe
+abbrev pub meld_price : Top → Top → ℕ
+meld_price t u = 1 + ones t.size + ones u.size + t.owed + u.owed
 
 -- what a meld of two heaps asks
 pub record MayMeld (v : View) (run : Span) (first second : Top) : Type 0 where
   pub held : IsInHand v.hand run
-  pub first_is : IsTop v.seen first run.next
-  pub second_is : IsTop v.seen second run.next
+  pub first_is : IsShownTop v.seen first run.next
+  pub second_is : IsShownTop v.seen second run.next
   pub size : run.next + meld_places first.size second.size ≡ run.end
   pub fits : first.size + second.size ≤ most_items
-  pub credits : bits first.size + bits second.size + 1 ≤ v.hand.credits
+  pub credits : meld_price first second ≤ v.hand.credits
 
 -- and makes
 pub record Melded (old new : View) (before after : Span) (first second : Top) (place : ℕ) : Type 0 where
@@ -79,31 +82,7 @@ pub record Melded (old new : View) (before after : Span) (first second : Top) (p
   pub spent : after.next ≡ after.end
   pub root : holds (recs new.seen) place (is_root (recs new.seen) kinds.Heap place) ≡ true
   pub items : means (recs new.seen) place ≡ rising (means (recs old.seen) first.list.0 ++ means (recs old.seen) second.list.0)
-  pub credits : old.hand.credits ≤ new.hand.credits + (bits first.size + bits second.size + 1)
-
--- a list of trees alone, of which nothing is owed
-pub record IsSide (w : World) (t : Top) (place : ℕ) : Type 0 where
-  pub list : IsList w t.list.0 place
-  pub rise : ranks_rise 0 (forest (recs w) t.list.0) ≡ true
-  pub weight_is : weight (forest (recs w) t.list.0) ≡ t.size
-  pub none : t.owed ≡ 0
-
--- what asks the top of two lists of trees
-pub record MayJoin (v : View) (run : Span) (first second : Top) : Type 0 where
-  pub held : IsInHand v.hand run
-  pub first_is : IsSide v.seen first run.next
-  pub second_is : IsSide v.seen second run.next
-  pub size : run.next + meld_places first.size second.size ≡ run.end
-  pub fits : first.size + second.size ≤ most_items
-  pub credits : 1 + ones first.size + ones second.size ≤ v.hand.credits
-
--- and makes
-pub record Joined (old new : View) (before after : Span) (first second : Top) (place : ℕ) : Type 0 where
-  pub filled : Filled old new before.next before.end
-  pub spent : after.next ≡ after.end
-  pub root : holds (recs new.seen) place (is_root (recs new.seen) kinds.Heap place) ≡ true
-  pub items : means (recs new.seen) place ≡ rising (means (recs old.seen) first.list.0 ++ means (recs old.seen) second.list.0)
-  pub credits : old.hand.credits ≤ new.hand.credits + (1 + ones first.size + ones second.size)
+  pub credits : old.hand.credits ≤ new.hand.credits + meld_price first second
 
 -- the places of a removal from a list of so many items: those of the trees before the least one and of its children, and those of
 -- the top of both lists

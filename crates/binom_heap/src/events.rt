@@ -14,7 +14,7 @@ ghost use Rattle.binom_heap.specs.Work.{is_heap_work};
 ghost use Rattle.binom_heap.specs.Heap.{meld_places, start_places, removal_places, paid_places, looks_at_trees, ends_at, IsReadyEvent};
 
 use crate::heap::{Top, owed_after, put_meld, put_top, read_top};
-use crate::removal::{least_tree, put_join, turn, without_tree};
+use crate::removal::{least_tree, turn, without_tree};
 use crate::trees::{NO_TREES, least_root};
 use crate::work::trees_of;
 use heap_store::{After, Cursor, EventJob, Heap, Prep, Run, Stage, Version, value_place};
@@ -251,7 +251,7 @@ fn delmin<H: Heap>(h: &mut H, job: &EventJob, top: Ref, run: &mut Run) -> After
         size: full - 1,
         owed: 0,
     };
-    let root = put_join(h, first, second, run);
+    let root = put_meld(h, first, second, run);
     After::End {
         root,
         size: job.base.size - 1,

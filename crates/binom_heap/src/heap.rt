@@ -88,7 +88,7 @@ pub(crate) fn owed_after(owed: u8, size: u32) -> u8
 }
 
 /// Publishes the top of two heaps that are melded: of their suspended merge, which owes nothing, or where one is empty the
-/// other's top once more. It spends at most a credit for each digit of their sizes, and one.
+/// other's top once more. It spends at most a credit for each tree of both, one, and what both owe.
 pub(crate) fn put_meld<H: Heap>(h: &mut H, first: Top, second: Top, run: &mut Run) -> Ref
     requires { MayMeld (H.view h.old) run.old first second }
     ensures { Melded (H.view h.old) (H.view h.new) run.old run.new first second result.0 }

@@ -1,16 +1,14 @@
-//! The tree with the least root of a list, the list without it, its children in rising ranks, and the top of both.
+//! The tree with the least root of a list, the list without it, and its children in rising ranks.
 ghost use Rattle.std.specs.Prelude.{◌≡◌, ◌+◌, ◌<◌, true};
 ghost use Rattle.heap_store.specs.World.{recs};
 ghost use Rattle.heap_store.specs.View.{Quiet};
 ghost use Rattle.heap_store.specs.Forest.{forest, is_trees_only, ranks_rise};
-ghost use Rattle.binom_heap.specs.Heap.{MayJoin, Joined};
 ghost use Rattle.binom_heap.specs.Laying.{Laid};
 ghost use Rattle.binom_heap.specs.Removal.{least_of, without_tree, turned, tree_count, IsLeast, MayDrop, MayTurn};
 
-use crate::heap::{Top, put_top};
 use crate::trees::{BinomialTree, first_tree, put_first};
 use heap_store::{Heap, Run};
-use lazy_rec::{Rec, Ref};
+use lazy_rec::Ref;
 
 /// The first tree with the least root of a list, and how many trees stand before it.
 #[derive(Clone, Copy)]
@@ -75,33 +73,4 @@ pub(crate) fn turn<H: Heap>(h: &mut H, list: Ref, onto: Ref, run: &mut Run) -> R
         }
         None => onto,
     }
-}
-
-/// Publishes the top of two lists of trees alone: of their suspended merge, or where one is empty of the other one. It owes
-/// nothing, and spends a credit for each tree at most, and one.
-pub(crate) fn put_join<H: Heap>(h: &mut H, first: Top, second: Top, run: &mut Run) -> Ref
-    requires { MayJoin (H.view h.old) run.old first second }
-    ensures { Joined (H.view h.old) (H.view h.new) run.old run.new first second result.0 }
-{
-    if first.size == 0 {
-        return put_top(h, second, run);
-    }
-    if second.size == 0 {
-        return put_top(h, first, run);
-    }
-    let list = h.put(
-        run,
-        Rec::HeapMerge {
-            list1: first.list,
-            list2: second.list,
-            n1: first.size,
-            n2: second.size,
-        },
-    );
-    let top = Top {
-        list,
-        size: first.size + second.size,
-        owed: 0,
-    };
-    put_top(h, top, run)
 }

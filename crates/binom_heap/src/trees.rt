@@ -1,4 +1,19 @@
 //! Binomial trees, and lists of them in rising ranks: reading, linking, inserting and merging (Okasaki, 3.2).
+//!
+//! A list of n items has a tree of rank r where the binary digit r of n is 1. A tree that comes in is a 1 that is added: each tree of
+//! its rank that it meets is linked with it, as a carry. So an insert of 2 into the list of 5 and of 3 over 4 makes 1 + 11 = 100:
+//!
+//! ```text
+//!     2    5    3             2    3             2
+//!               |     link    |    |    link    / \
+//!               4     --->    5    4    --->   3   5
+//!                                              |
+//!                                              4
+//!
+//!     ranks 0, 0, 1           ranks 1, 1       rank 2
+//! ```
+//!
+//! A link takes two places: a cell of the list of children, which has the other tree first, and the tree that has it.
 ghost use Rattle.std.specs.Prelude.{◌≡◌, ◌+◌, ◌*◌, ◌<◌, ◌≤◌, true, Some, None, IfSome, ◌∷◌, option_map, slice_get};
 ghost use Rattle.lazy_rec.specs.declared.places.Item.{Item};
 ghost use Rattle.lazy_rec.specs.Meaning.{means};

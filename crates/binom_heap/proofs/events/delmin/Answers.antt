@@ -26,7 +26,7 @@ use Rattle.binom_heap.proofs.EventPaid.{PaidBase, PaidTop, paid_base, read_list,
 use Rattle.binom_heap.proofs.Least.{no_means}
 use Rattle.binom_heap.proofs.Melds.{means_up}
 use Rattle.binom_heap.proofs.Removing.{none_found}
-use Rattle.binom_heap.proofs.Removed.{Removal, least_found, none_is, removal_due, drop_asks, turn_asks, join_asks, base_items, joined_items, removal_filled, removal_credits, delmin_end, delmin_none}
+use Rattle.binom_heap.proofs.Removed.{Removal, least_found, none_is, removal_due, drop_asks, turn_asks, meld_asks, base_items, joined_items, removal_filled, removal_credits, delmin_end, delmin_none}
 use Rattle.binom_heap.proofs.events.delmin.Goals as goal
 use Rattle.binom_heap.proofs.events.delmin.Goals.{Start as Begun, After-read_top-paid, After-trees_of-trees, In-Some, In_default, After-tree_size-full}
 
@@ -151,10 +151,10 @@ overflow_sub-first g c = omega (arith, c.tree_size-full.ensures, (removal g (goa
 pub overflow_sub-result : goal.overflow_sub-result
 overflow_sub-result g c = let p = (removal g (goal.at.overflow_sub-result g c).In-Some).facts.parts in omega (arith, p.most, p.pos)
 
-pub put_join-root-requires : goal.put_join-root-requires
-put_join-root-requires g c =
-    let k = removal g (goal.at.put_join-root-requires g c).In-Some in
-    join_asks (g.met.H.Heap.lawful c.least_tree.new.h) c.args.run.now c.trees_of-trees.result.0 c.args.job.now.base.size c.in-Some.least k c.tree_size-full.result c.tree_size-full.ensures (g.met.H.Heap.lawful c.without_tree-rest.new.h) c.without_tree-rest.new.run c.without_tree-rest.result c.without_tree-rest.ensures (g.met.H.Heap.lawful c.turn-kids.new.h) c.turn-kids.new.run c.turn-kids.result c.turn-kids.ensures
+pub put_meld-root-requires : goal.put_meld-root-requires
+put_meld-root-requires g c =
+    let k = removal g (goal.at.put_meld-root-requires g c).In-Some in
+    meld_asks (g.met.H.Heap.lawful c.least_tree.new.h) c.args.run.now c.trees_of-trees.result.0 c.args.job.now.base.size c.in-Some.least k c.tree_size-full.result c.tree_size-full.ensures (g.met.H.Heap.lawful c.without_tree-rest.new.h) c.without_tree-rest.new.run c.without_tree-rest.result c.without_tree-rest.ensures (g.met.H.Heap.lawful c.turn-kids.new.h) c.turn-kids.new.run c.turn-kids.result c.turn-kids.ensures
 
 pub returns-in_default : goal.returns-in_default
 returns-in_default g c =
@@ -188,8 +188,8 @@ returns g c =
     let job = c.args.job.now in
     let f2 = found2 g i in
     let law3 = g.met.H.Heap.lawful c.least_tree.new.h in
-    let law4 = g.met.H.Heap.lawful c.put_join-root.new.h in
-    let j = c.put_join-root.ensures in
+    let law4 = g.met.H.Heap.lawful c.put_meld-root.new.h in
+    let j = c.put_meld-root.ensures in
     let n = job.base.size in
     let full = c.tree_size-full.result in
     let trees = c.trees_of-trees.result.0 in
@@ -199,10 +199,10 @@ returns g c =
     let filled = removal_filled law3 c.args.run.now trees n c.in-Some.least k full c.tree_size-full.ensures (g.met.H.Heap.lawful c.without_tree-rest.new.h) c.without_tree-rest.new.run c.without_tree-rest.result c.without_tree-rest.ensures (g.met.H.Heap.lawful c.turn-kids.new.h) c.turn-kids.new.run c.turn-kids.result c.turn-kids.ensures j.filled in
     let all = quiet_Filled (q3 g i) filled in
     let x = all.grows in
-    let now : PaidTop (g.H.Heap.view c.put_join-root.new.h).seen job.base.root.0 c.args.top.0 = record { base = p.base; base_here = x.records _ _ p.base_here; list = p.list; same = p.same; here = x.records _ _ p.here } in
+    let now : PaidTop (g.H.Heap.view c.put_meld-root.new.h).seen job.base.root.0 c.args.top.0 = record { base = p.base; base_here = x.records _ _ p.base_here; list = p.list; same = p.same; here = x.records _ _ p.here } in
     let items3 = base_items law3 c.args.run.now trees n c.in-Some.least k full c.tree_size-full.ensures (g.met.H.Heap.lawful c.without_tree-rest.new.h) c.without_tree-rest.new.run c.without_tree-rest.result c.without_tree-rest.ensures (g.met.H.Heap.lawful c.turn-kids.new.h) c.turn-kids.new.run c.turn-kids.result c.turn-kids.ensures in
     let joined = joined_items law3 c.args.run.now trees n c.in-Some.least k full c.tree_size-full.ensures (g.met.H.Heap.lawful c.without_tree-rest.new.h) c.without_tree-rest.new.run c.without_tree-rest.result c.without_tree-rest.ensures (g.met.H.Heap.lawful c.turn-kids.new.h) c.turn-kids.new.run c.turn-kids.result c.turn-kids.ensures in
-    let spent = removal_credits law3 c.args.run.now trees n c.in-Some.least k full c.tree_size-full.ensures (g.met.H.Heap.lawful c.without_tree-rest.new.h) c.without_tree-rest.new.run c.without_tree-rest.result c.without_tree-rest.ensures (g.met.H.Heap.lawful c.turn-kids.new.h) c.turn-kids.new.run c.turn-kids.result c.turn-kids.ensures (g.H.Heap.view c.put_join-root.new.h).hand.credits j.credits in
+    let spent = removal_credits law3 c.args.run.now trees n c.in-Some.least k full c.tree_size-full.ensures (g.met.H.Heap.lawful c.without_tree-rest.new.h) c.without_tree-rest.new.run c.without_tree-rest.result c.without_tree-rest.ensures (g.met.H.Heap.lawful c.turn-kids.new.h) c.turn-kids.new.run c.turn-kids.result c.turn-kids.ensures (g.H.Heap.view c.put_meld-root.new.h).hand.credits j.credits in
     let kept = means_kept (recs (g.H.Heap.view c.trees_of-trees.new.h).seen) (recs v3) (lawful_names (law2 g i)) c.least_tree.ensures.quiet.grows.records trees (trees_there (recs (g.H.Heap.view c.trees_of-trees.new.h).seen) trees (done g f2).trees) in
     let o2 = old_top (law2 g i) c.args.top.0 (record { list = p.list; size = p.base.size; owed = 0 }) ((quiet g f2).grows.records _ _ p.here) in
     let o0 = old_top (g.met.H.Heap.lawful c.args.h.now).world c.args.top.0 (record { list = p.list; size = p.base.size; owed = 0 }) p.here in
@@ -215,7 +215,7 @@ returns g c =
       built = record {
         filled = all;
         spent = j.spent;
-        made = delmin_end law4.world job c.requires.kind (other_kind job c.requires.build.base_job c.requires.kind) c.requires.op c.args.top.0 now (is_value_up _ _ x p.list.0 b.known) c.put_join-root.result j.root _ _ (up4 ∙ (sym up2 ∙ (sym there ∙ (kept ∙ items3)))) (j.items ∙ joined) (job.base.size - 1) (omega (arith, length_is, longer, k.weight_is));
+        made = delmin_end law4.world job c.requires.kind (other_kind job c.requires.build.base_job c.requires.kind) c.requires.op c.args.top.0 now (is_value_up _ _ x p.list.0 b.known) c.put_meld-root.result j.root _ _ (up4 ∙ (sym up2 ∙ (sym there ∙ (kept ∙ items3)))) (j.items ∙ joined) (job.base.size - 1) (omega (arith, length_is, longer, k.weight_is));
         credits = omega (arith, spent, items_of g i, removal_due job c.requires.kind c.args.top c.requires.stage c.requires.op);
       };
     }

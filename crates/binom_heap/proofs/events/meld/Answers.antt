@@ -7,7 +7,8 @@ use Rattle.heap_store.specs.View.{Quiet}
 use Rattle.heap_store.proofs.Steps.{Quiet_refl, Quiet_trans, quiet_Filled}
 use Rattle.binom_heap.specs.Heap.{top_record, start_places, meld_places}
 use Rattle.binom_heap.proofs.Tops.{top_of_root}
-use Rattle.binom_heap.proofs.Melds.{no_place, some_place}
+use Rattle.binom_heap.proofs.Melds.{again_top, no_place, some_place}
+use Rattle.binom_heap.proofs.TopGains.{price_most}
 use Rattle.binom_heap.proofs.EventTops.{BuildTop, first_stage, other_kind, build_root, build_top, start_nodes, no_nodes, built_same, same_root}
 use Rattle.binom_heap.proofs.EventMakes.{long_end, meld_end, meld_due}
 use Rattle.binom_heap.proofs.events.meld.Goals as goal
@@ -69,6 +70,7 @@ put_meld-root-requires g c =
     let k = first g d in
     let l = second g d in
     let x = (quiet g d).grows in
+    let law = (g.met.H.Heap.lawful c.read_top-second.new.h).world in
     let stage = first_stage job b.base_job c.requires.kind ops.Meld c.requires.op refl in
     let nodes : start_places job.op job.base.size job.other.size ≡ meld_places c.read_top-first.result.size c.read_top-second.result.size = (let op = c.requires.op in let n = k.size in let m = l.size in rw (op, n, m) refl) in
     let same : (g.H.Heap.view c.read_top-second.new.h).hand.credits ≡ (g.H.Heap.view c.args.h.now).hand.credits = ap (λ (h : Hand). h.credits) (quiet g d).hand in
@@ -76,11 +78,11 @@ put_meld-root-requires g c =
     let bits_same : bits c.read_top-first.result.size + bits c.read_top-second.result.size + 1 ≡ bits job.base.size + bits job.other.size + 1 = (let n = k.size in let m = l.size in rw (n, m) refl) in
     record {
       held = (let q = (quiet g d).hand in rw q b.held);
-      first_is = record { root = job.base.root.0; here = x.records _ _ k.there; low = k.low };
-      second_is = record { root = job.other.root.0; here = x.records _ _ l.there; low = l.low };
+      first_is = again_top law job.base.root.0 c.read_top-first.result (x.records _ _ k.there) c.args.run.now.next k.low;
+      second_is = again_top law job.other.root.0 c.read_top-second.result (x.records _ _ l.there) c.args.run.now.next l.low;
       size = omega (arith, b.size, start_nodes b stage, nodes);
       fits = omega (arith, k.size, l.size);
-      credits = omega (arith, same, due, bits_same, b.credits);
+      credits = omega (arith, same, due, bits_same, b.credits, price_most law job.base.root.0 job.other.root.0 c.read_top-first.result c.read_top-second.result (x.records _ _ k.there) (x.records _ _ l.there));
     }
 
 pub returns : goal.returns
@@ -103,6 +105,6 @@ returns g c =
         filled = quiet_Filled (quiet g d) m.filled;
         spent = m.spent;
         made = meld_end (g.met.H.Heap.lawful c.read_top-second.new.h) (g.met.H.Heap.lawful c.put_meld-root.new.h) job c.requires.kind (other_kind job b.base_job c.requires.kind) c.requires.op c.read_top-first.result c.read_top-second.result (x.records _ _ k.there) (x.records _ _ l.there) k.size l.size (omega arith) c.args.run.now c.put_meld-root.new.run c.put_meld-root.result m;
-        credits = omega (arith, same, due, bits_same, m.credits);
+        credits = omega (arith, same, due, bits_same, m.credits, price_most (g.met.H.Heap.lawful c.read_top-second.new.h).world job.base.root.0 job.other.root.0 c.read_top-first.result c.read_top-second.result (x.records _ _ k.there) (x.records _ _ l.there));
       };
     }

@@ -1,17 +1,16 @@
 use Rattle.std.proofs.Common.{◌<◌, arith}
-use Rattle.binom_heap.proofs.Melds.{again_new, first_empty, second_empty, merge_fits, merge_puts, merge_new, merge_pays, merge_melded, one_place1, one_place2, two_places}
-use Rattle.binom_heap.proofs.TopGains.{again_gain}
+use Rattle.binom_heap.proofs.Melds.{first_empty, second_empty, merge_fits, merge_puts, merge_new, merge_pays, merge_melded, one_place1, one_place2, two_places}
+use Rattle.binom_heap.proofs.TopGains.{shown_gain}
 use Rattle.binom_heap.proofs.heap.put_meld.Goals as goal
 
 pub put_top-requires : goal.put_top-requires
 put_top-requires g c =
     let k = c.requires in
-    let law = g.met.H.Heap.lawful c.args.h.now in
     record {
-      top = again_new law.world k.second_is;
+      top = k.second_is.top;
       held = k.held;
       size = omega (arith, k.size, one_place1 c.args.first.size c.args.second.size k.fits (omega arith));
-      credits = omega (arith, again_gain (g.H.Heap.view c.args.h.now).seen c.args.run.now.next k.second_is.root c.args.second k.second_is.here);
+      credits = omega (arith, shown_gain (g.H.Heap.view c.args.h.now).seen c.args.run.now.next c.args.second k.second_is.shown);
     }
 
 pub returns-then-first-eq0 : goal.returns-then-first-eq0
@@ -22,12 +21,11 @@ returns-then-first-eq0 g c =
 pub put_top-requires-then-second-eq0 : goal.put_top-requires-then-second-eq0
 put_top-requires-then-second-eq0 g c =
     let k = c.requires in
-    let law = g.met.H.Heap.lawful c.args.h.now in
     record {
-      top = again_new law.world k.first_is;
+      top = k.first_is.top;
       held = k.held;
       size = omega (arith, k.size, one_place2 c.args.first.size c.args.second.size k.fits (omega arith));
-      credits = omega (arith, again_gain (g.H.Heap.view c.args.h.now).seen c.args.run.now.next k.first_is.root c.args.first k.first_is.here);
+      credits = omega (arith, shown_gain (g.H.Heap.view c.args.h.now).seen c.args.run.now.next c.args.first k.first_is.shown);
     }
 
 pub returns-then-second-eq0 : goal.returns-then-second-eq0
