@@ -1,18 +1,16 @@
 -- A list without its tree of the least root, and children that are turned.
-use Rattle.std.proofs.Common.{◌≡◌, ℕ, zero, suc, ◌+◌, ◌-◌, ◌<◌, ◌≤◌, ltb, leb, refl, sym, ap, ◌∙◌, arith, Bool, true, false, cond, ◌&&◌, Option, Some, None}
-use Rattle.std.proofs.lemmas.Bool.{and_parts, leb-true, lt-ltb}
-use Rattle.std.proofs.lemmas.Grind.{common_steps}
+use Rattle.std.proofs.Common.{◌≡◌, ℕ, zero, suc, ◌+◌, ◌-◌, ◌<◌, ◌≤◌, ltb, leb, refl, sym, ◌∙◌, arith, Bool, true, false, cond, Option, Some, None}
+use Rattle.std.proofs.lemmas.Bool.{and_parts, leb-true}
 use Rattle.heap_store.specs.Span.{Span}
 use Rattle.heap_store.specs.World.{World, recs}
-use Rattle.heap_store.specs.Forest.{Forest, no_trees, a_tree, forest, is_trees_only, ranks_rise}
+use Rattle.heap_store.specs.Forest.{Forest, no_trees, a_tree, forest, ranks_rise}
 use Rattle.heap_store.specs.Lawful.{IsLawful}
 use Rattle.heap_store.specs.View.{View, Quiet}
 use Rattle.heap_store.proofs.ShowLaws.{one_value}
 use Rattle.binom_heap.specs.declared.trees.FirstTree.{FirstTree}
-use Rattle.binom_heap.specs.declared.removal.LeastTree.{LeastTree}
 use Rattle.binom_heap.specs.Trees.{IsFirst}
 use Rattle.binom_heap.specs.Laying.{IsTree, MayPrecede, Laid}
-use Rattle.binom_heap.specs.Removal.{Least, least_step, least_of, without_tree, turned, tree_count, IsFound, IsLeast, MayDrop, MayTurn}
+use Rattle.binom_heap.specs.Removal.{Least, least_step, least_of, without_tree, turned, tree_count, MayDrop, MayTurn}
 use Rattle.binom_heap.proofs.FirstTrees.{FirstIs, tree_before, first_is}
 use Rattle.binom_heap.proofs.RunLaws.{puts_none, puts_trans}
 use Rattle.binom_heap.proofs.Linking.{forest_up, list_up}
@@ -117,18 +115,6 @@ turn_lower law run list onto k f i = (first_is law list f k.list_is.trees i).res
 
 -- ---- the tree with the least root
 
--- the first tree of a list is found where the others have none, or none with a lower root
-pub record Here (w : World) (list : ℕ) (f : FirstTree) : Type 0 where
-  pub first : FirstIs w list f
-  pub rest_rise : ranks_rise (suc f.tree.rank) (forest (recs w) f.rest.0) ≡ true
-
-pub least_here : {w : World} → IsLawful w → (list : ℕ) (f : FirstTree) → is_trees_only (recs w) list ≡ true → ranks_rise 0 (forest (recs w) list) ≡ true → IsFirst w list f → Here w list f
-least_here {w} law list f only rise i =
-    let k = first_is law list f only i in
-    let e = k.trees in
-    let up : (leb 0 f.tree.rank && ranks_rise (suc f.tree.rank) (forest (recs w) f.rest.0)) ≡ true = rw e at rise in
-    record { first = k; rest_rise = (and_parts (leb 0 f.tree.rank) (ranks_rise (suc f.tree.rank) (forest (recs w) f.rest.0)) up).1 }
-
 -- in the trees of higher ranks as many stand before a tree as its rank allows
 pub early_next : (low : ℕ) (f : Forest) → ranks_rise low f ≡ true → (l : Least) → least_of f ≡ Some l → low + l.before ≤ l.rank
 early_next low no_trees h l e = absurd (let z : None ≡ Some l = e in cc)
@@ -143,42 +129,3 @@ early_next low (a_tree r x k more) h l e =
     go : (o : Option Least) → least_of more ≡ o → ((m : Least) → least_of more ≡ Some m → suc r + m.before ≤ m.rank) → least_step r x k o ≡ Some l → low + l.before ≤ l.rank
     go None f ih e = let z = one_value _ _ e in rw (← z) (omega (arith, leb-true low r (and_parts (leb low r) (ranks_rise (suc r) more) h).0))
     go (Some m) f ih e = by (ltb m.item x) m (ih m f) (leb-true low r (and_parts (leb low r) (ranks_rise (suc r) more) h).0) e
-
-module _ {w : World} (list : ℕ) (f : FirstTree) (i : IsFirst w list f) (k : Here w list f) where
-  abbrev rest_least : Option Least
-  rest_least = least_of (forest (recs w) f.rest.0)
-
-  own : IsFound w list (record { before = 0; rank = f.tree.rank; item = f.tree.item.0; kids = forest (recs w) f.tree.kids.0 }) (record { before = 0; tree = f.tree })
-  own = record { there = i.tree; low = k.first.tree_low; before = refl; rank = refl; item = refl; kids = refl; early = omega arith }
-
-  all_is : least_of (forest (recs w) list) ≡ least_step f.tree.rank f.tree.item.0 (forest (recs w) f.tree.kids.0) rest_least
-  all_is = ap least_of k.first.trees
-
-  no_rest : (o : Option Least) → IsLeast w f.rest.0 o None → o ≡ None
-  no_rest None h = refl
-  no_rest (Some l) h = absurd h
-
-  -- no other tree
-  pub least_alone : IsLeast w f.rest.0 rest_least None → IsLeast w list (least_of (forest (recs w) list)) (Some (record { before = 0; tree = f.tree }))
-  least_alone h = let n = no_rest rest_least h in rw (all_is, n) own
-
-  -- none of the others has a lower root
-  pub least_keeps : (t : LeastTree) → IsLeast w f.rest.0 rest_least (Some t) → f.tree.item.0 ≤ t.tree.item.0 → IsLeast w list (least_of (forest (recs w) list)) (Some (record { before = 0; tree = f.tree }))
-  least_keeps t h le = go rest_least refl h
-    where
-      go : (o : Option Least) → rest_least ≡ o → IsLeast w f.rest.0 o (Some t) → IsLeast w list (least_of (forest (recs w) list)) (Some (record { before = 0; tree = f.tree }))
-      go None n h = absurd h
-      go (Some l) n h =
-          let no : ltb l.item f.tree.item.0 ≡ false = (let same = h.item in grind (arith, common_steps, le, same)) in
-          rw (all_is, n, no) own
-
-  -- one of them has
-  pub least_later : (t : LeastTree) → IsLeast w f.rest.0 rest_least (Some t) → t.tree.item.0 < f.tree.item.0 → IsLeast w list (least_of (forest (recs w) list)) (Some (record { before = t.before + 1; tree = t.tree }))
-  least_later t h lt = go rest_least refl h
-    where
-      go : (o : Option Least) → rest_least ≡ o → IsLeast w f.rest.0 o (Some t) → IsLeast w list (least_of (forest (recs w) list)) (Some (record { before = t.before + 1; tree = t.tree }))
-      go None n h = absurd h
-      go (Some l) n h =
-          let yes : ltb l.item f.tree.item.0 ≡ true = lt-ltb l.item f.tree.item.0 (omega (arith, lt, h.item)) in
-          let early = early_next (suc f.tree.rank) (forest (recs w) f.rest.0) k.rest_rise l n in
-          rw (all_is, n, yes) (record { there = h.there; low = omega (arith, h.low, k.first.rest_low); before = omega (arith, h.before); rank = h.rank; item = h.item; kids = h.kids; early = omega (arith, early, h.before, h.rank) })

@@ -24,6 +24,7 @@ pub mod EventMakes
 pub mod Least
 pub mod EventPaid
 pub mod Dropping
+pub mod Lesser
 pub mod Removing
 pub mod Sides
 pub mod Removed

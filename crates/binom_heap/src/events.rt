@@ -15,7 +15,7 @@ ghost use Rattle.binom_heap.specs.Heap.{meld_places, start_places, removal_place
 
 use crate::heap::{Top, owed_after, put_meld, put_top, read_top};
 use crate::removal::{least_tree, turn, without_tree};
-use crate::trees::{NO_TREES, least_root};
+use crate::trees::NO_TREES;
 use crate::work::trees_of;
 use heap_store::{After, Cursor, EventJob, Heap, Prep, Run, Stage, Version, value_place};
 use lazy_rec::limits::MOST_ITEMS;
@@ -167,12 +167,13 @@ fn min<H: Heap>(h: &mut H, job: &EventJob, top: Ref, run: &mut Run) -> After
 
 /// The reply that tells the least item of a list of trees, or that it has none.
 fn least_reply<H: Heap>(h: &mut H, trees: Ref) -> Reply
-    requires { is_trees_only (recs (H.view h.old).seen) trees.0 ≡ true }
+    requires trees { is_trees_only (recs (H.view h.old).seen) trees.0 ≡ true }
+    requires rise { ranks_rise 0 (forest (recs (H.view h.old).seen) trees.0) ≡ true }
     ensures quiet { Quiet (H.view h.old) (H.view h.new) }
     ensures least { result ≡ told (slice_get (means (recs (H.view h.old).seen) trees.0) 0) }
 {
-    match least_root(h, trees) {
-        Some(least) => Reply::Number(least.0),
+    match least_tree(h, trees) {
+        Some(least) => Reply::Number(least.tree.item.0),
         None => Reply::Empty,
     }
 }

@@ -1,10 +1,11 @@
 //! The tree with the least root of a list, the list without it, and its children in rising ranks.
-ghost use Rattle.std.specs.Prelude.{◌≡◌, ◌+◌, ◌<◌, true};
+ghost use Rattle.std.specs.Prelude.{◌≡◌, ltb, cond, true, Some};
 ghost use Rattle.heap_store.specs.World.{recs};
 ghost use Rattle.heap_store.specs.View.{Quiet};
 ghost use Rattle.heap_store.specs.Forest.{forest, is_trees_only, ranks_rise};
 ghost use Rattle.binom_heap.specs.Laying.{Laid};
-ghost use Rattle.binom_heap.specs.Removal.{least_of, without_tree, turned, tree_count, IsLeast, MayDrop, MayTurn};
+ghost use Rattle.binom_heap.specs.Trees.{tree_record};
+ghost use Rattle.binom_heap.specs.Removal.{least_of, without_tree, turned, tree_count, IsLeast, IsLesser, MayDrop, MayTurn};
 
 use crate::trees::{BinomialTree, first_tree, put_first};
 use heap_store::{Heap, Run};
@@ -17,33 +18,54 @@ pub struct LeastTree {
     pub tree: BinomialTree,
 }
 
-/// The first tree with the least root of a list that has trees.
+/// The first tree with the least root of a list, if it has any.
 pub(crate) fn least_tree<H: Heap>(h: &mut H, list: Ref) -> Option<LeastTree>
     requires trees { is_trees_only (recs (H.view h.old).seen) list.0 ≡ true }
     requires rise { ranks_rise 0 (forest (recs (H.view h.old).seen) list.0) ≡ true }
     ensures quiet { Quiet (H.view h.old) (H.view h.new) }
     ensures least { IsLeast (H.view h.new).seen list.0 (least_of (forest (recs (H.view h.new).seen) list.0)) result }
 {
+    match first_tree(h, list) {
+        Some(first) => {
+            let found = LeastTree {
+                before: 0,
+                tree: first.tree,
+            };
+            Some(lesser_tree(h, found, 1, first.rest))
+        }
+        None => None,
+    }
+}
+
+/// Of two trees the one with the lesser root, of equal ones the first.
+#[inline(always)]
+fn lesser(first: LeastTree, later: LeastTree) -> LeastTree
+    ensures { result ≡ cond (ltb later.tree.item.0 first.tree.item.0) later first }
+{
+    if later.tree.item.0 < first.tree.item.0 {
+        later
+    } else {
+        first
+    }
+}
+
+/// Of a tree that was found and the trees of a list, which stand behind so many, the first one with the least root.
+fn lesser_tree<H: Heap>(h: &mut H, found: LeastTree, passed: u32, list: Ref) -> LeastTree
+    requires trees { is_trees_only (recs (H.view h.old).seen) list.0 ≡ true }
+    requires rise { ranks_rise passed (forest (recs (H.view h.old).seen) list.0) ≡ true }
+    requires there { recs (H.view h.old).seen found.tree.place.0 ≡ Some (tree_record found.tree) }
+    ensures quiet { Quiet (H.view h.old) (H.view h.new) }
+    ensures lesser { IsLesser (H.view h.new).seen found passed list.0 result }
+{
     let Some(first) = first_tree(h, list) else {
-        return None;
+        return found;
     };
     let here = LeastTree {
-        before: 0,
+        before: passed,
         tree: first.tree,
     };
-    match least_tree(h, first.rest) {
-        Some(later) => {
-            if later.tree.item.0 < first.tree.item.0 {
-                Some(LeastTree {
-                    before: later.before + 1,
-                    tree: later.tree,
-                })
-            } else {
-                Some(here)
-            }
-        }
-        None => Some(here),
-    }
+    let best = lesser(found, here);
+    lesser_tree(h, best, passed + 1, first.rest)
 }
 
 /// The list without the tree behind so many others, which are put again in front of what follows it. It takes so many places.

@@ -14,10 +14,8 @@
 //! ```
 //!
 //! A link takes two places: a cell of the list of children, which has the other tree first, and the tree that has it.
-ghost use Rattle.std.specs.Prelude.{◌≡◌, ◌+◌, ◌*◌, ◌<◌, ◌≤◌, true, Some, None, IfSome, ◌∷◌, option_map, slice_get};
+ghost use Rattle.std.specs.Prelude.{◌≡◌, ◌+◌, ◌*◌, ◌≤◌, true, None, IfSome};
 ghost use Rattle.lazy_rec.specs.declared.places.Item.{Item};
-ghost use Rattle.lazy_rec.specs.Meaning.{means};
-ghost use Rattle.lazy_rec.specs.Plain.{rising};
 ghost use Rattle.heap_store.specs.World.{recs};
 ghost use Rattle.heap_store.specs.View.{Quiet};
 ghost use Rattle.heap_store.specs.Forest.{no_trees, a_tree, add_tree, merge, forest, is_trees_only};
@@ -72,6 +70,7 @@ pub(crate) fn first_tree<H: Heap>(h: &mut H, list: Ref) -> Option<FirstTree>
 
 /// Links two trees of one rank: the one with the lesser root, of equal ones the first, gets the other as its first child. It
 /// takes two places, for the list of children and for the tree.
+#[inline(always)]
 pub(crate) fn link<H: Heap>(
     h: &mut H,
     first: BinomialTree,
@@ -89,6 +88,7 @@ pub(crate) fn link<H: Heap>(
 }
 
 /// The tree that a tree becomes with another one of its rank and of no lesser root as its first child.
+#[inline(always)]
 fn put_under<H: Heap>(
     h: &mut H,
     top: BinomialTree,
@@ -176,31 +176,4 @@ pub(crate) fn merge<H: Heap>(h: &mut H, list1: Ref, list2: Ref, run: &mut Run) -
     let rest = merge(h, a.rest, b.rest, run);
     let linked = link(h, a.tree, b.tree, run);
     insert_tree(h, linked, rest, run)
-}
-
-/// The least item of a list, if it has any. Each tree has its least item at its root.
-pub(crate) fn least_root<H: Heap>(h: &mut H, list: Ref) -> Option<Item>
-    requires { is_trees_only (recs (H.view h.old).seen) list.0 ≡ true }
-    ensures quiet { Quiet (H.view h.old) (H.view h.new) }
-    ensures least { option_map (λ (x : Item). x.0) result ≡ slice_get (means (recs (H.view h.old).seen) list.0) 0 }
-{
-    match first_tree(h, list) {
-        Some(first) => Some(least_from(h, first.tree.item, first.rest)),
-        None => None,
-    }
-}
-
-/// The least of an item and of all items of a list.
-fn least_from<H: Heap>(h: &mut H, item: Item, list: Ref) -> Item
-    requires { is_trees_only (recs (H.view h.old).seen) list.0 ≡ true }
-    ensures quiet { Quiet (H.view h.old) (H.view h.new) }
-    ensures least { slice_get (rising (item.0 ∷ means (recs (H.view h.old).seen) list.0)) 0 ≡ Some result.0 }
-{
-    match first_tree(h, list) {
-        Some(first) => {
-            let least = Item(item.0.min(first.tree.item.0));
-            least_from(h, least, first.rest)
-        }
-        None => item,
-    }
 }

@@ -51,7 +51,7 @@ done g c =
     value_trees law c.args.top.0 c.read_top-paid.result.list.0 c.read_top-paid.result.size c.trees_of-trees.result.0 o.list c.trees_of-trees.ensures.place
 
 pub least_reply-reply-requires : goal.least_reply-reply-requires
-least_reply-reply-requires g c = (done g (goal.at.least_reply-reply-requires g c).After-trees_of-trees).trees
+least_reply-reply-requires g c = let k = done g (goal.at.least_reply-reply-requires g c).After-trees_of-trees in record { trees = k.trees; rise = k.rise }
 
 pub returns : goal.returns
 returns g c =
