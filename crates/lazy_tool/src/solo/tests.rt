@@ -15,7 +15,7 @@ const ROTATION_REPORT: &str =
 const NO_TOTALS: &str = "totals forced 0 steps 0 givenup 0 dues 0\n";
 
 // A script, and its report.
-const REPORTS: [(&str, &str); 7] = [
+const REPORTS: [(&str, &str); 11] = [
     ("lazy 1\n", NO_TOTALS),
     ("lazy 1", NO_TOTALS),
     (ROTATION, ROTATION_REPORT),
@@ -34,6 +34,25 @@ const REPORTS: [(&str, &str); 7] = [
     (
         "lazy 1\nnew stream\ncons 1 2\ncons 2 1\nappend 3 3\nreverse 4\nhead 5\n",
         "1 ok\n2 ok\n3 ok\n4 ok\n5 ok\n6 2\ntotals forced 3 steps 6 givenup 0 dues 6\n",
+    ),
+    (
+        "lazy 1\nnew heap\ninsert 1 4\ninsert 2 4\ninsert 3 1\nmin 4\nmin 4\ndelmin 4\nmin 7\n",
+        "1 ok\n2 ok\n3 ok\n4 ok\n5 1\n6 1\n7 ok\n8 4\ntotals forced 3 steps 4 givenup 0 dues 16\n",
+    ),
+    // A heap that is melded with itself.
+    (
+        "lazy 1\nnew heap\ninsert 1 9\nmeld 2 2\nmin 3\ndelmin 3\nsize 5\nmin 5\n",
+        "1 ok\n2 ok\n3 ok\n4 9\n5 ok\n6 1\n7 9\ntotals forced 2 steps 4 givenup 0 dues 12\n",
+    ),
+    // Old heaps keep their least item when a newer one has lost it.
+    (
+        "lazy 1\nnew heap\ninsert 1 3\ninsert 2 1\ninsert 3 2\ndelmin 4\nmin 2\nmin 3\nmin 4\nmin 5\nsize 4\n",
+        "1 ok\n2 ok\n3 ok\n4 ok\n5 ok\n6 3\n7 1\n8 1\n9 2\n10 3\ntotals forced 4 steps 7 givenup 0 dues 17\n",
+    ),
+    // An empty heap, and melds with it.
+    (
+        "lazy 1\nnew heap\nmin 1\ndelmin 1\ninsert 1 5\nmeld 1 4\nmeld 4 1\nmeld 1 1\nmin 5\nmin 6\nmin 7\n",
+        "1 ok\n2 empty\n3 empty\n4 ok\n5 ok\n6 ok\n7 ok\n8 5\n9 5\n10 empty\ntotals forced 1 steps 1 givenup 0 dues 9\n",
     ),
 ];
 
