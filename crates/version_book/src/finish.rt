@@ -12,6 +12,8 @@ use heap_store::{Heap, Rows, Version};
 use lazy_rec::Kind;
 
 /// Ends the row of a begun event whose work was stopped, and answers why.
+#[cold]
+#[inline(never)]
 fn finish_refused<R: Rows>(heap: &mut R, name: u32, cause: GiveUp) -> Refuse
     requires may { MayEndRefused (R.view heap.old) name cause }
     ensures ended { (r : Row) → row_at (R.view heap.old).seen name ≡ Some r → RowEnded (R.view heap.old) (R.view heap.new) name (record r { ending = ending_refused cause }) }
@@ -30,6 +32,7 @@ fn finish_refused<R: Rows>(heap: &mut R, name: u32, cause: GiveUp) -> Refuse
 }
 
 /// Ends the row of a begun event as its work came out, and answers what the row says.
+#[inline(always)]
 pub(crate) fn finish<R: Rows>(
     heap: &mut R,
     name: u32,

@@ -30,6 +30,7 @@ pub trait Forces {
 impl Forces for Stack {
     ghost serves = { λ stack about. about.alone && is_empty stack };
 
+    #[inline(never)]
     fn force<R: Rows>(&mut self, heap: &mut R, s: Ref) -> Result<Ref, GiveUp> {
         force_solo(heap, &AllKinds, self, s)
     }

@@ -37,6 +37,7 @@ fn bases(pass: &mut BookPass<PlainHeap>, event: &Event) -> Option<(Version, Vers
 }
 
 /// Runs an event under the next name, from the versions that it names.
+#[inline(always)]
 fn run_event(pass: &mut BookPass<PlainHeap>, event: &Event)
     requires solo { IsSolo pass.old }
     requires next { ComesNext pass.old event.now }
@@ -59,6 +60,7 @@ fn run_event(pass: &mut BookPass<PlainHeap>, event: &Event)
 }
 
 /// Runs the events in order over a store of so many places, each from the versions that it names.
+#[inline(never)]
 pub fn solo_book(alloc: Global, nodes: u32, events: &[Event]) -> Result<Closed, NoMemory>
     requires nodes { nodes ≤ MOST_NODES }
     requires script { IsScript events.now }
