@@ -19,7 +19,7 @@ use Rattle.std.specs.Prelude.{option_and_then}
 use Rattle.heap_store.specs.World.{World}
 use Rattle.heap_store.specs.Growth.{Grows, begun_of}
 use Rattle.heap_store.specs.Legal.{IsLegal}
-use Rattle.heap_store.specs.Budget.{direct_at, room_of}
+use Rattle.heap_store.specs.Budget.{direct_at, dues, room_of}
 use Rattle.heap_store.specs.Causes.{HasCause}
 use Rattle.heap_store.proofs.CauseLaws.{cause_kept, total_nodes_grows}
 use Rattle.heap_store.proofs.RowBudget.{room_rises}
@@ -32,6 +32,7 @@ use Rattle.version_book.specs.Closed.{IsBook, IsBounded, IsRefusal, IsWhole}
 use Rattle.version_book.specs.Pass.{Pass, pass_of}
 use Rattle.version_book.proofs.Rooms.{room_fits}
 use Rattle.version_book.proofs.InOrder.{all_up}
+use Rattle.version_book.proofs.Charges.{dues_to, all_dues}
 use Rattle.version_book.specs.RowSteps.{IsCaller}
 use Rattle.version_book.specs.Calls.{IsIdle}
 use Rattle.version_book.specs.Solo.{IsSolo, ComesNext, Ran}
@@ -251,6 +252,9 @@ module _ (nodes : ℕ) (events : List Event) (h : PlainHeap) (i : ℕ) (p : Pass
 
   pub whole-of : IsWhole (view_of h)
   whole-of = subst IsWhole (sym same) (is_whole nodes events i p idle_is all_rows a last)
+
+  pub charged-of : (charged : ℕ) → charged ≡ dues_to p.view.seen i → charged ≡ dues (view_of h).seen
+  charged-of charged t = subst (λ (v : View). charged ≡ dues v.seen) (sym same) (t ∙ all_dues p.view.seen i (all_rows ∙ (a.rows ∙ sym last)))
 
 -- nothing is in hand of a store that was just opened
 pub opened_idle : (nodes rows : ℕ) → IsIdle (opened_view nodes rows)

@@ -19,4 +19,5 @@ pub mod Entries
 pub mod RowReads
 pub mod IdlePasses
 pub mod InOrder
+pub mod Charges
 pub mod Books

@@ -69,8 +69,8 @@ module _ (w : World) (legal : IsLegal w) (events : List Event) (same : events_of
       omega (
         arith,
         rows_fit k (omega arith),
-        rows_more (takes direct) 1 k w.rows (omega arith),
-        rows_more (takes due) 1 k w.rows (omega arith),
+        rows_more (takes direct) (λ j. refl) 1 k w.rows,
+        rows_more (takes due) (λ j. refl) 1 k w.rows,
         ap (λ z. takes direct z (slice_index_or w.rows k [])) e,
         ap (λ z. takes due z (slice_index_or w.rows k [])) e,
         row_fits (suc k),

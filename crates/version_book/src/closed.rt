@@ -1,6 +1,7 @@
 //! Closed books: the rows of all events and the nodes that were published.
 ghost use Rattle.std.specs.Prelude.{◌≡◌, ◌≤◌, Some, length};
 ghost use Rattle.heap_store.specs.World.{node_at};
+ghost use Rattle.heap_store.specs.Budget.{dues};
 ghost use Rattle.heap_store.specs.Opened.{view_of};
 ghost use Rattle.version_book.specs.Closed.{IsPaid, IsWhole, row_told, node_told};
 ghost use Rattle.version_book.specs.Totals.{totals_of};
@@ -32,14 +33,15 @@ impl Model for Closed {
 }
 
 impl Closed {
-    /// The book of a store whose rows have all ended.
-    pub(crate) fn of(heap: PlainHeap) -> Closed
-        requires { IsWhole (view_of heap) }
+    /// The book of a store whose rows have all ended, and whose events were charged so much.
+    pub(crate) fn of(heap: PlainHeap, charged: u64) -> Closed
+        requires whole { IsWhole (view_of heap) }
+        requires charged { charged ≡ dues (view_of heap).seen }
         ensures { result ≡ (view_of heap).seen }
     {
         let mut heap = heap;
         let (_, drawn) = heap.load_counts();
-        let totals = count_totals(&heap, drawn);
+        let totals = count_totals(&heap, drawn, charged);
         Closed { heap, totals }
     }
 

@@ -1,7 +1,9 @@
 //! Events in order, on one thread.
-ghost use Rattle.std.specs.Prelude.{◌≡◌, ◌≤◌, IfOk, IfSome, IfNone};
+ghost use Rattle.std.specs.Prelude.{◌≡◌, ◌≤◌, ◌<◌, ◌^◌, IfOk, IfSome, IfNone};
 ghost use Rattle.lazy_rec.specs.declared.limits.TheConstants.{MOST_NODES};
+ghost use Rattle.lazy_rec.specs.Due.{due};
 ghost use Rattle.lazy_rec.specs.History.{IsScript};
+ghost use Rattle.heap_store.specs.Budget.{due_at};
 ghost use Rattle.heap_store.specs.View.{IsLawfulView};
 ghost use Rattle.kind_table.specs.Kinds.{AreBuilt};
 ghost use Rattle.version_book.specs.Closed.{IsBook};
@@ -11,6 +13,7 @@ ghost use Rattle.version_book.specs.Solo.{IsSolo, UsesEnded, AreBases, ComesNext
 use crate::answers::Look;
 use crate::closed::Closed;
 use crate::pass::BookPass;
+use dues::due;
 use force_engine::Stack;
 use heap_store::{PlainHeap, Version};
 use lazy_rec::{Event, NoMemory, Op};
@@ -36,26 +39,47 @@ fn bases(pass: &mut BookPass<PlainHeap>, event: &Event) -> Option<(Version, Vers
     }
 }
 
-/// Runs an event under the next name, from the versions that it names.
+fn size(version: &Version) -> u32
+    ensures { result ≡ version.now.size }
+{
+    version.size
+}
+
+/// What an event on these versions is charged.
 #[inline(always)]
-fn run_event(pass: &mut BookPass<PlainHeap>, event: &Event)
+fn charge(op: Op, base: &Version, other: &Version) -> u64
+    ensures value { result ≡ due base.now.kind op base.now.size other.now.size }
+    ensures small { result < 2 ^ 34 }
+{
+    due(base.kind, op, size(base), size(other))
+}
+
+/// Runs an event under the next name, from the versions that it names, and answers what it was charged.
+#[inline(always)]
+fn run_event(pass: &mut BookPass<PlainHeap>, event: &Event) -> u64
     requires solo { IsSolo pass.old }
     requires next { ComesNext pass.old event.now }
     ensures ran { Ran pass.old pass.new event.now }
     ensures lawful { IsLawfulView pass.new.view }
+    ensures charged { result ≡ due_at pass.new.view.seen pass.new.view.named }
+    ensures small { result < 2 ^ 34 }
 {
     let Ok(ticket) = pass.draw() else {
         unreachable!()
     };
     if let Op::New(kind) = event.op {
         let _ = pass.begin_new(ticket, kind);
-        return;
+        return due(kind, event.op, 0, 0);
     }
     match bases(pass, event) {
         Some((base, other)) => {
             let _ = pass.call(ticket, event.op, base, other, event.arg);
+            charge(event.op, &base, &other)
         }
-        None => pass.skip(ticket, event),
+        None => {
+            pass.skip(ticket, event);
+            0
+        }
     }
 }
 
@@ -70,8 +94,9 @@ pub fn solo_book(alloc: Global, nodes: u32, events: &[Event]) -> Result<Closed, 
     let heap = PlainHeap::open(alloc, nodes, events.len() as u32)?;
     let stack = Stack::open(alloc)?;
     let mut pass = BookPass::new(heap, stack, 0);
+    let mut charged = 0;
     for event in events {
-        run_event(&mut pass, event);
+        charged += run_event(&mut pass, event);
     }
-    Ok(Closed::of(pass.into_heap()))
+    Ok(Closed::of(pass.into_heap(), charged))
 }

@@ -1,16 +1,11 @@
-//! The totals of a closed book: one pass over its rows, and one over its places.
-ghost use Rattle.std.specs.Prelude.{◌≡◌, ◌+◌, ◌≤◌, ◌<◌, ◌^◌, length};
-ghost use Rattle.heap_store.specs.Rows.{row_at, version_at};
-ghost use Rattle.heap_store.specs.LookedAt.{size_of};
-ghost use Rattle.heap_store.specs.Budget.{due_at, dues};
+//! The totals of a closed book: one pass over its places.
+ghost use Rattle.std.specs.Prelude.{◌≡◌, ◌+◌, ◌<◌, ◌^◌};
+ghost use Rattle.heap_store.specs.Budget.{dues};
 ghost use Rattle.heap_store.specs.Opened.{view_of};
-ghost use Rattle.version_book.specs.Closed.{IsWhole};
 ghost use Rattle.version_book.specs.Totals.{totals_of, counted, HasRoom};
 
-use crate::rows::row_of;
-use dues::due;
-use heap_store::{Node, PlainHeap, Version};
-use lazy_rec::{Op, Ref, SuspState, event_name};
+use heap_store::{Node, PlainHeap};
+use lazy_rec::{Ref, SuspState};
 
 /// How many places are fixed in every store.
 const FIXED_PLACES: u64 = 5;
@@ -56,77 +51,18 @@ fn counted(totals: Totals, node: Option<Node>) -> Totals
     totals
 }
 
-/// The version with a number, where its row was answered. Inlined, so that only what is asked of it is decoded.
-#[inline(always)]
-fn version(heap: &PlainHeap, number: u32) -> Option<Version>
-    requires { IsWhole (view_of heap.now) }
-    ensures { result ≡ version_at (row_at (view_of heap.now).seen) number }
-{
-    let name = event_name(number);
-    if name == 0 || name > heap.row_count() {
-        return None;
-    }
-    row_of(name, heap.words(name)).ended.version(number)
-}
-
-/// The size of a version, 0 where there is none.
-fn size(version: Option<Version>) -> u32
-    ensures { result ≡ size_of version }
-{
-    match version {
-        Some(version) => version.size,
-        None => 0,
-    }
-}
-
-/// What the event of a row was charged, at the sizes of the versions that it names.
-fn due_of(heap: &PlainHeap, name: u32) -> u64
-    requires whole { IsWhole (view_of heap.now) }
-    requires low { 1 ≤ name }
-    requires high { name ≤ length (view_of heap.now).seen.rows }
-    ensures value { result ≡ due_at (view_of heap.now).seen name }
-    ensures small { result < 2 ^ 34 }
-{
-    let row = row_of(name, heap.words(name));
-    if !row.begun {
-        return 0;
-    }
-    let event = row.event;
-    if let Op::New(kind) = event.op {
-        return due(kind, event.op, 0, 0);
-    }
-    let base = version(heap, event.base);
-    let other = version(heap, event.other);
-    match base {
-        Some(Version { kind, .. }) => due(kind, event.op, size(base), size(other)),
-        None => unreachable!(),
-    }
-}
-
-/// What all events were charged.
-fn dues(heap: &PlainHeap) -> u64
-    requires { IsWhole (view_of heap.now) }
-    ensures { result ≡ dues (view_of heap.now).seen }
-{
-    let mut total = 0;
-    for i in 0..heap.row_count() {
-        total += due_of(heap, i + 1);
-    }
-    total
-}
-
-/// The totals of a store whose rows have all ended and that has drawn so many places.
+/// The totals of a store that has drawn so many places, and whose events were charged so much.
 #[inline(never)]
-pub(crate) fn count_totals(heap: &PlainHeap, drawn: u64) -> Totals
-    requires whole { IsWhole (view_of heap.now) }
+pub(crate) fn count_totals(heap: &PlainHeap, drawn: u64, charged: u64) -> Totals
     requires drawn { drawn ≡ (view_of heap.now).drawn }
+    requires charged { charged ≡ dues (view_of heap.now).seen }
     ensures { result ≡ totals_of (view_of heap.now).seen }
 {
     let mut totals = Totals {
         forced: 0,
         steps: 0,
         given_up: 0,
-        dues: dues(heap),
+        dues: charged,
         nodes: 0,
     };
     for place in 0..(drawn + FIXED_PLACES) as u32 {

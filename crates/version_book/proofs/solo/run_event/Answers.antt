@@ -1,4 +1,8 @@
-use Rattle.std.proofs.Common.{sym}
+use Rattle.std.proofs.Common.{sym, ◌∙◌, subst, arith}
+use Rattle.dues.proofs.RoomLaws.{due_fits}
+use Rattle.version_book.specs.Calls.{Ended}
+use Rattle.version_book.specs.Solo.{Ran}
+use Rattle.version_book.proofs.Charges.{charged_new, charged_call, charged_skip}
 use Rattle.version_book.proofs.InOrder.{HasTicket, ticket, out_of_names, solo_still, next_event, uses_ended, no_plan, built_new, new_is, may_extend, event_same, ran_call, ran_skip, not_new}
 use Rattle.version_book.proofs.solo.run_event.Goals as goal
 
@@ -21,10 +25,15 @@ returns-in-New c =
     let p = c.args.pass.now in
     let q = c.draw.new.self in
     let e = c.args.event.now in
+    let r = c.begin_new.new.self in
     let t : HasTicket p q c.in-Ok.ticket.name = ticket c.requires.solo c.in-Ok.ensures.ok c.draw.ensures.same in
+    let same = sym (new_is p q c.in-Ok.ticket.name e c.requires.solo c.requires.next t c.in-New.kind c.in-New.is) in
+    let ran : Ran p r e = ran_call p q r c.in-Ok.ticket.name e _ c.begin_new.result c.requires.solo c.requires.next t same c.begin_new.ensures.ended in
     record {
-      ran = ran_call p q c.begin_new.new.self c.in-Ok.ticket.name e _ c.begin_new.result c.requires.solo c.requires.next t (sym (new_is p q c.in-Ok.ticket.name e c.requires.solo c.requires.next t c.in-New.kind c.in-New.is)) c.begin_new.ensures.ended;
+      ran = ran;
       lawful = c.begin_new.ensures.lawful;
+      charged = c.due.ensures ∙ charged_new q r c.in-Ok.ticket.name e c.begin_new.ensures.lawful.legal (ran.named ∙ sym t.next) c.begin_new.result (subst (λ x. Ended q r c.in-Ok.ticket.name x c.begin_new.result) same c.begin_new.ensures.ended) c.in-New.kind c.in-New.is;
+      small = omega (arith, due_fits c.in-New.kind e.op 0 0, c.due.ensures);
     }
 
 pub bases-requires : goal.bases-requires
@@ -67,22 +76,32 @@ pub returns-in-Some : goal.returns-in-Some
 returns-in-Some c =
     let p = c.args.pass.now in
     let q = c.draw.new.self in
+    let r = c.call.new.self in
     let e = c.args.event.now in
     let t : HasTicket p q c.in-Ok.ticket.name = ticket c.requires.solo c.in-Ok.ensures.ok c.draw.ensures.same in
+    let based = not_new e.op c.in_default-op.not-New in
+    let same = event_same p q c.in-Ok.ticket.name e c.requires.solo c.requires.next t c.draw.ensures.lawful.legal based c.in-Some.base c.in-Some.other c.in-Some.ensures.bases in
+    let ended = rw c.bases.ensures.same at c.call.ensures.ended in
+    let ran : Ran p r e = ran_call p q r c.in-Ok.ticket.name e _ c.call.result c.requires.solo c.requires.next t same ended in
     record {
-      ran = ran_call p q c.call.new.self c.in-Ok.ticket.name e _ c.call.result c.requires.solo c.requires.next t
-          (event_same p q c.in-Ok.ticket.name e c.requires.solo c.requires.next t c.draw.ensures.lawful.legal (not_new e.op c.in_default-op.not-New) c.in-Some.base c.in-Some.other c.in-Some.ensures.bases)
-          (rw c.bases.ensures.same at c.call.ensures.ended);
+      ran = ran;
       lawful = c.call.ensures.lawful;
+      charged = c.charge.ensures.value ∙ charged_call q r c.in-Ok.ticket.name e c.call.ensures.lawful.legal (ran.named ∙ sym t.next) c.call.result (subst (λ x. Ended q r c.in-Ok.ticket.name x c.call.result) same ended) c.in-Some.base c.in-Some.other based c.in-Some.ensures.bases;
+      small = c.charge.ensures.small;
     }
 
 pub returns-in-None : goal.returns-in-None
 returns-in-None c =
     let p = c.args.pass.now in
     let q = c.draw.new.self in
+    let r = c.skip.new.self in
     let e = c.args.event.now in
     let t : HasTicket p q c.in-Ok.ticket.name = ticket c.requires.solo c.in-Ok.ensures.ok c.draw.ensures.same in
+    let called = rw c.bases.ensures.same at c.skip.ensures.skipped in
+    let ran : Ran p r e = ran_skip p q r c.in-Ok.ticket.name e c.requires.solo c.requires.next t called in
     record {
-      ran = ran_skip p q c.skip.new.self c.in-Ok.ticket.name e c.requires.solo c.requires.next t (rw c.bases.ensures.same at c.skip.ensures.skipped);
+      ran = ran;
       lawful = c.skip.ensures.lawful;
+      charged = charged_skip q r c.in-Ok.ticket.name e c.skip.ensures.lawful.legal (ran.named ∙ sym t.next) called;
+      small = omega arith;
     }

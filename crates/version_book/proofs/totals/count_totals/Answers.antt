@@ -6,7 +6,7 @@ use Rattle.version_book.proofs.Sums.{IsCountedTo, none_counted, place_counted, c
 use Rattle.version_book.proofs.totals.count_totals.Goals as goal
 
 pub loop-place-init : goal.loop-place-init
-loop-place-init c = subst (λ d. IsCountedTo (view_of c.args.heap.now).seen.nodes d 0 (record { forced = 0; steps = 0; given_up = 0; dues = c.dues.result; nodes = 0 })) c.dues.ensures (none_counted (view_of c.args.heap.now).seen.nodes c.dues.result)
+loop-place-init c = subst (λ d. IsCountedTo (view_of c.args.heap.now).seen.nodes d 0 (record { forced = 0; steps = 0; given_up = 0; dues = c.args.charged; nodes = 0 })) c.requires.charged (none_counted (view_of c.args.heap.now).seen.nodes c.args.charged)
 
 pub counted-totals-requires : goal.counted-totals-requires
 counted-totals-requires c =
