@@ -150,15 +150,14 @@ fn is_later(rec: &Rec) -> bool
     }
 }
 
-/// A claim whose attempt has published a place, or the next suspension of its family.
+/// The attempt of a claim has published a place, or the next suspension of its family.
 #[inline(always)]
-fn marked(claim: HeldClaim, later: bool) -> HeldClaim
-    ensures { result ≡ record claim { built = true; passed = claim.passed || later } }
+fn mark(claim: &mut HeldClaim, later: bool)
+    ensures { claim.new ≡ record claim.old { built = true; passed = claim.old.passed || later } }
 {
-    HeldClaim {
-        place: claim.place,
-        built: true,
-        passed: claim.passed || later,
+    claim.built = true;
+    if later {
+        claim.passed = true;
     }
 }
 
@@ -170,7 +169,7 @@ fn mark_newest(claims: &mut Vec<HeldClaim>, later: bool)
 {
     let len = claims.len();
     if len > 0 {
-        claims[len - 1] = marked(claims[len - 1], later);
+        mark(&mut claims[len - 1], later);
     }
 }
 
