@@ -72,6 +72,7 @@ pub fn read_top<H: Heap>(h: &mut H, root: Ref) -> Top
 /// (Okasaki's `exec`): with the schedule one cell on, or where none of it is left, with a new rotation as front and schedule.
 /// It forces nothing. It spends a credit at most, for the schedule's unit: so each schedule is paid for by its top. The
 /// entries may be items or lists.
+#[inline(always)]
 pub fn put_top<H: Heap>(h: &mut H, top: Top, run: &mut Run) -> Ref
     requires top { IsNearQueue (H.view h.old).seen top run.old.next }
     requires held { IsInHand (H.view h.old).hand run.old }
