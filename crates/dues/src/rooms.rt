@@ -1,11 +1,11 @@
 //! The room of a script and the sum of its size bounds, in one pass over its events.
 
-ghost use Rattle.std.specs.Prelude.{◌≡◌, ℕ, ◌+◌, ◌*◌, ◌≤◌, ◌<◌, ◌^◌, cond, List, Some, IfOk, IsSome, length};
+ghost use Rattle.std.specs.Prelude.{◌≡◌, ℕ, ◌+◌, ◌*◌, ◌≤◌, ◌<◌, ◌^◌, cond, List, Some, IfOk, IfSome, IsSome, length};
 ghost use Rattle.lazy_rec.specs.declared.events.Event.{Event};
 ghost use Rattle.lazy_rec.specs.Kinds.{is_split};
 ghost use Rattle.lazy_rec.specs.History.{event_of, kind_of, IsScript};
 ghost use Rattle.dues.specs.Sizes.{second_bound};
-ghost use Rattle.dues.specs.Rooms.{room, room_at_sizes, places_of, places_at_size, model_size};
+ghost use Rattle.dues.specs.Rooms.{room, room_at_sizes, places, places_of, places_at_size, model_size};
 ghost use Rattle.dues.specs.Versions.{versions_at, bound_at, next_kind, next_bounds, next_places};
 
 use crate::sizes::{second_bound, size_bound};
@@ -22,6 +22,7 @@ struct VersionBounds {
 }
 
 /// What is kept of the versions of a name. Names count from 1.
+#[inline(always)]
 fn versions_at(kept: &[VersionBounds], name: u32) -> Option<VersionBounds>
     ensures { result ≡ versions_at kept.now name }
 {
@@ -30,6 +31,7 @@ fn versions_at(kept: &[VersionBounds], name: u32) -> Option<VersionBounds>
 }
 
 /// The size bound of a version, 0 where there is none.
+#[inline(always)]
 fn bound_at(kept: &[VersionBounds], version: u32) -> u32
     ensures { result ≡ bound_at kept.now version }
 {
@@ -41,6 +43,7 @@ fn bound_at(kept: &[VersionBounds], version: u32) -> u32
 }
 
 /// The kind of the versions that an event makes: that of `new`, else that of its base.
+#[inline(always)]
 fn next_kind(kept: &[VersionBounds], event: &Event) -> Kind
     requires { IsSome (next_kind kept.now event.now) }
     ensures { next_kind kept.now event.now ≡ Some result }
@@ -53,6 +56,7 @@ fn next_kind(kept: &[VersionBounds], event: &Event) -> Kind
 }
 
 /// The size bound of the second version that an event makes, 0 where it makes none.
+#[inline(always)]
 fn bound_of_second(event: &Event, b1: u32) -> u32
     ensures { result ≡ cond (is_split event.now.op) (second_bound b1 event.now.arg) 0 }
 {
@@ -63,6 +67,7 @@ fn bound_of_second(event: &Event, b1: u32) -> u32
 }
 
 /// What is kept of the versions that an event makes.
+#[inline(always)]
 fn next_versions(kept: &[VersionBounds], event: &Event) -> VersionBounds
     requires { IsSome (next_kind kept.now event.now) }
     ensures kind { next_kind kept.now event.now ≡ Some result.kind }
@@ -78,13 +83,43 @@ fn next_versions(kept: &[VersionBounds], event: &Event) -> VersionBounds
     }
 }
 
+/// The places that an event of a kind may take, where they don't depend on the sizes of its bases.
+#[inline(always)]
+fn fixed_places(kind: Kind, op: Op) -> Option<u64>
+    ensures { IfSome result (λ p. (n m : ℕ) → places kind op n m ≡ p) }
+{
+    match (kind, op) {
+        (_, Op::Size | Op::Head) => Some(0),
+        (Kind::Stream, Op::Cons) => Some(2),
+        (Kind::Stream, Op::Tail) => Some(1),
+        (Kind::Bankq | Kind::Rtq, Op::Snoc) => Some(3 + 8),
+        (Kind::Bankq, Op::Tail) => Some(2 + 8 * 2),
+        (Kind::Rtq, Op::Tail) => Some(2 + 8),
+        (Kind::Heap, Op::Insert) => Some(2 + 8 * 2),
+        (Kind::Cat, Op::Cons | Op::Snoc | Op::Append) => Some(6 + 8),
+        _ => None,
+    }
+}
+
 /// The places that an event of a kind may take: its own, and eight for each step that its due pays.
-fn next_places(kept: &[VersionBounds], kind: Kind, event: &Event) -> u64
+#[inline(never)]
+fn places_by_size(kept: &[VersionBounds], kind: Kind, event: &Event) -> u64
     ensures { result ≡ next_places kept.now kind event.now }
 {
     let n1 = bound_at(kept, event.base);
     let n2 = bound_at(kept, event.other);
     direct(kind, event.op, n1, n2) + 8 * due(kind, event.op, n1, n2)
+}
+
+/// The same, which looks at the bases only where the places depend on their sizes.
+#[inline(always)]
+fn next_places(kept: &[VersionBounds], kind: Kind, event: &Event) -> u64
+    ensures { result ≡ next_places kept.now kind event.now }
+{
+    match fixed_places(kind, event.op) {
+        Some(places) => places,
+        None => places_by_size(kept, kind, event),
+    }
 }
 
 /// The room of a script: the sum over its events of `direct + 8 * due`, at the size bounds of their bases in place of
@@ -99,7 +134,7 @@ pub fn room(alloc: Global, events: &[Event]) -> Result<u64, NoMemory>
     for event in events {
         let versions = next_versions(&kept, event);
         total += next_places(&kept, versions.kind, event);
-        kept.push(versions).map_err(|_| NoMemory)?;
+        kept.push_reserved(versions);
     }
     Ok(total)
 }

@@ -25,6 +25,7 @@ fn rest_of(bound: u32, count: u64) -> u32
 
 /// The most items that the version of an event can have, from the bounds `b1` of its base and `b2` of its other version, 0
 /// where there is none; of a split the first version. Operations of one name change the bound alike in all kinds.
+#[inline(always)]
 pub fn size_bound(_kind: Kind, event: &Event, b1: u32, b2: u32) -> u32
     ensures { result ≡ size_bound event.now.op b1 b2 event.now.arg }
 {

@@ -1,6 +1,6 @@
 use Rattle.std.proofs.Common.{arith}
 use Rattle.dues.proofs.RoomLaws.{due_fits, direct_fits}
-use Rattle.dues.proofs.rooms.next_places.Goals as goal
+use Rattle.dues.proofs.rooms.places_by_size.Goals as goal
 
 pub overflow_mul-result : goal.overflow_mul-result
 overflow_mul-result c =
