@@ -1,10 +1,10 @@
 -- Numbers that are counted up as text.
-use Rattle.std.proofs.Common.{◌≡◌, ℕ, zero, suc, ◌+◌, ◌/◌, ◌%◌, ◌<◌, ◌≢◌, List, [], ◌∷◌, ◌++◌, length, drop, refl, ap, sym, subst, ◌∙◌, decimal, codes, slice_set, slice_index_or, inl, inr, append_assoc, arith}
-use Rattle.std.specs.Prelude.{Result, Ok, Err, OnOk, is_ok, if◌then◌else◌}
-use Rattle.std.proofs.lemmas.Fmt.{decimal_digit, decimal_step}
+use Rattle.std.proofs.Common.{◌≡◌, ℕ, zero, suc, ◌+◌, ◌/◌, ◌%◌, ◌<◌, ◌≤◌, ◌≢◌, List, [], ◌∷◌, ◌++◌, length, take, drop, refl, ap, sym, subst, ◌∙◌, decimal, codes, slice_set, slice_index_or, inl, inr, lit<, append_assoc, arith}
+use Rattle.std.proofs.lemmas.Fmt.{decimal_digit, decimal_step, length-decimal-le}
 use Rattle.std.proofs.lemmas.Bool.{cases_lt}
-use Rattle.std.proofs.Math.Seq.{drop-nil}
-use Rattle.std.proofs.lemmas.List.{length-append}
+use Rattle.std.proofs.Math.Seq.{drop-nil, take-append-add}
+use Rattle.std.proofs.lemmas.List.{length-append, take-take}
+use Rattle.report_text.specs.Written.{counted}
 
 pub record Last (n : ℕ) : Type 0 where
   pub ds : List ℕ
@@ -49,11 +49,19 @@ drop_more zero k l = ap (λ j. drop j l) (omega arith)
 drop_more (suc s) k [] = drop-nil k ∙ sym (drop-nil (suc s + k))
 drop_more (suc s) k (x ∷ xs) = let same : suc (s + k) ≡ suc s + k = omega arith in drop_more s k xs ∙ ap (λ j. drop j (x ∷ xs)) same
 
-pub on_ok : {T E : Type 0} (r : Result T E) (new a b goal : List ℕ) → new ≡ (if is_ok r then a else b) → a ≡ goal → OnOk r (new ≡ goal)
-on_ok (Ok x) new a b goal e h = e ∙ h
-on_ok (Err x) new a b goal e h = tt
+-- how many digits of a name a counter shows
+pub name_digits : (n d : ℕ) (shown : List ℕ) → shown ≡ counted n → n < 4294967296 → d + 20 ≡ length shown → (d ≡ length (decimal n)) × (d ≤ 10)
+name_digits n d shown is small many =
+    let short : length (decimal n) ≤ 10 = length-decimal-le 10 n (lit< tt) (omega (arith, small)) (omega (arith, small)) in
+    let long = ap length is ∙ length-append (decimal n) (codes " ok\n                ") in (omega (arith, many, long), omega (arith, many, long, short))
 
-pub line_joined : (out name ended : List ℕ) → (out ++ name) ++ (32 ∷ (ended ++ 10 ∷ [])) ≡ out ++ (name ++ codes " " ++ ended ++ codes "\n")
-line_joined out name ended =
-    append_assoc out name (32 ∷ (ended ++ 10 ∷ []))
-    ∙ ap (λ l. out ++ l) (sym (append_assoc (name ++ codes " ") ended (codes "\n") ∙ append_assoc name (codes " ") (ended ++ codes "\n")))
+-- the digits of a name and so many bytes behind them, among the first that a counter shows
+pub name_front : (n d k : ℕ) (shown front : List ℕ) → shown ≡ counted n → d ≡ length (decimal n) → d + k ≤ 16 → front ≡ take 16 shown → take (d + k) front ≡ decimal n ++ take k (codes " ok\n                ")
+name_front n d k shown front is many few here =
+    ap (take (d + k)) (here ∙ ap (take 16) is)
+    ∙ (take-take (d + k) 16 (counted n) few
+    ∙ (ap (λ l. take (l + k) (counted n)) many
+    ∙ take-append-add (decimal n) (codes " ok\n                ") k))
+
+pub line_joined : (out name ended : List ℕ) → ((out ++ (name ++ 32 ∷ [])) ++ ended) ++ codes "\n" ≡ out ++ (name ++ codes " " ++ ended ++ codes "\n")
+line_joined out name ended = simp append_assoc

@@ -1,2 +1,3 @@
 pub mod ToldRows
 mod Digits
+mod Filled

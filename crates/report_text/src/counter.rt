@@ -1,13 +1,14 @@
 //! A number that is counted up as text.
-ghost use Rattle.std.specs.Prelude.{◌≡◌, ◌++◌, ◌+◌, ◌<◌, ℕ, List, ◌≤◌, length, codes, decimal};
+ghost use Rattle.std.specs.Prelude.{◌≡◌, ◌+◌, ◌<◌, length, take};
+ghost use Rattle.report_text.specs.Written.{counted};
 
 use itoa::write_digits;
 use std::marker::Model;
 
-/// The digits of a number, and ` ok` with a line's end behind them.
+/// The digits of a number, and behind them ` ok`, a line's end, and spaces.
 #[derive(Drop)]
 pub struct Counter {
-    bytes: [u8; 24],
+    bytes: [u8; 40],
     start: usize,
 }
 
@@ -18,16 +19,16 @@ impl Model for Counter {
 
     ghost view = { λ c. drop c.start c.bytes };
 
-    ghost invariant = { λ c. (c.start ≤ 20) × (drop 20 c.bytes ≡ codes " ok\n") };
+    ghost invariant = { λ c. (c.start ≤ 20) × (drop 20 c.bytes ≡ codes " ok\n                ") };
 }
 
 impl Counter {
     /// The counter at 0.
     pub fn new() -> Counter
-        ensures { result ≡ decimal 0 ++ codes " ok\n" }
+        ensures { result ≡ counted 0 }
     {
         Counter {
-            bytes: *b"00000000000000000000 ok\n",
+            bytes: *b"00000000000000000000 ok\n                ",
             start: 19,
         }
     }
@@ -35,9 +36,9 @@ impl Counter {
     /// Counts on from a number.
     #[inline(always)]
     pub fn next(&mut self, n: u64)
-        requires at { self.old ≡ decimal n ++ codes " ok\n" }
+        requires at { self.old ≡ counted n }
         requires small { n < 4294967296 }
-        ensures { self.new ≡ decimal (n + 1) ++ codes " ok\n" }
+        ensures { self.new ≡ counted (n + 1) }
     {
         if self.bytes[19] < b'9' {
             self.bytes[19] += 1;
@@ -46,21 +47,20 @@ impl Counter {
         }
     }
 
-    /// The digits with ` ok` and a line's end.
+    /// The first bytes from the digits on: so many that the digits of a name and ` ok` with a line's end are among them.
     #[inline(always)]
-    pub fn with_ok(&self) -> &[u8]
-        ensures all { result.now ≡ self.now }
-        ensures long { 4 ≤ length result.now }
+    pub fn front(&self) -> &[u8]
+        ensures front { result.now ≡ take 16 self.now }
+        ensures long { length result.now ≡ 16 }
     {
-        &self.bytes[self.start..]
+        &self.bytes[self.start..self.start + 16]
     }
 
-    /// The digits alone.
+    /// How many digits there are.
     #[inline(always)]
-    pub fn digits(&self) -> &[u8]
-        ensures { (ds : List ℕ) → self.now ≡ ds ++ codes " ok\n" → result.now ≡ ds }
+    pub fn digits(&self) -> usize
+        ensures { result + 20 ≡ length self.now }
     {
-        let line = self.with_ok();
-        &line[..line.len() - 4]
+        20 - self.start
     }
 }

@@ -1,17 +1,17 @@
 //! The report of a closed book as bytes: one line for each event, and one of totals.
 #![tactic(auto)]
 
-ghost use Rattle.std.specs.Prelude.{◌≡◌, ◌++◌, ◌+◌, ◌≤◌, IfOk, OnOk, not, codes, decimal, length};
+ghost use Rattle.std.specs.Prelude.{◌≡◌, ◌++◌, ◌+◌, ◌<◌, ◌≤◌, IfOk, not, codes, decimal, length};
 ghost use Rattle.report_text.specs.Report.{is_reply, reply_text, ended_text, row_text, field_text, totals_text, report_of, some_given_up};
+ghost use Rattle.report_text.specs.Written.{counted};
 
 mod counter;
-mod line;
+mod text;
 
 use counter::Counter;
-use itoa::Buffer;
 use lazy_rec::{NoMemory, Reply};
-use line::Line;
 use std::alloc::{AllocError, Global};
+use text::{LINE_ROOM, Text};
 use version_book::{Closed, Ended, Row, Totals};
 
 /// A report as bytes, and whether some row in it is given up: it is full, had no memory or no base.
@@ -21,115 +21,107 @@ pub struct Printed {
     pub has_given_up: bool,
 }
 
-fn push_text(out: &mut Vec<u8>, text: &str) -> Result<(), AllocError>
-    ensures { OnOk result (out.new.items ≡ out.old.items ++ text.now) }
-{
-    out.extend_from_slice(text.as_bytes())?;
-    Ok(())
-}
-
-fn push_number(out: &mut Vec<u8>, buffer: &mut Buffer, n: u64) -> Result<(), AllocError>
-    ensures { OnOk result (out.new.items ≡ out.old.items ++ decimal n) }
-{
-    out.extend_from_slice(buffer.format(n).as_bytes())?;
-    Ok(())
-}
-
-fn end_line(out: &mut Vec<u8>) -> Result<(), AllocError>
-    ensures { OnOk result (out.new.items ≡ out.old.items ++ codes "\n") }
-{
-    push_text(out, "\n")
-}
-
 #[inline(always)]
-fn put_reply(line: &mut Line, reply: Reply)
-    requires room { length line.old + 20 ≤ 80 }
-    ensures text { line.new ≡ reply_text reply ++ line.old }
-    ensures short { length line.new ≤ length line.old + 20 }
+fn put_reply(text: &mut Text, reply: Reply)
+    requires room { 64 ≤ text.old.room }
+    ensures text { text.new.text ≡ text.old.text ++ reply_text reply }
+    ensures room { text.old.room ≤ text.new.room + 20 }
 {
     match reply {
-        Reply::Ok => line.put_text("ok"),
-        Reply::Number(n) => line.put_number(n),
-        Reply::Empty => line.put_text("empty"),
-        Reply::TooLong => line.put_text("toolong"),
+        Reply::Ok => text.put_text("ok"),
+        Reply::Number(n) => text.put_number(n),
+        Reply::Empty => text.put_text("empty"),
+        Reply::TooLong => text.put_text("toolong"),
     }
 }
 
+fn put_full(text: &mut Text, drawn: u64, wanted: u32)
+    requires room { 72 ≤ text.old.room }
+    ensures text { text.new.text ≡ text.old.text ++ codes "full " ++ decimal drawn ++ codes " " ++ decimal wanted }
+    ensures room { text.old.room ≤ text.new.room + 46 }
+{
+    text.put_text("full ");
+    text.put_number(drawn);
+    text.put_text(" ");
+    text.put_number(u64::from(wanted));
+}
+
 #[inline(always)]
-fn put_ended(line: &mut Line, ended: Ended)
-    requires room { length line.old ≤ 1 }
-    ensures text { line.new ≡ ended_text ended ++ line.old }
-    ensures short { length line.new ≤ 47 }
+fn put_ended(text: &mut Text, ended: Ended)
+    requires room { 72 ≤ text.old.room }
+    ensures text { text.new.text ≡ text.old.text ++ ended_text ended }
+    ensures room { text.old.room ≤ text.new.room + 46 }
 {
     match ended {
-        Ended::Reply { reply, .. } => put_reply(line, reply),
-        Ended::Full { drawn, wanted } => {
-            line.put_number(u64::from(wanted));
-            line.put_text(" ");
-            line.put_number(drawn);
-            line.put_text("full ");
-        }
-        Ended::Memory => line.put_text("memory"),
-        Ended::NoBase => line.put_text("nobase"),
+        Ended::Reply { reply, .. } => put_reply(text, reply),
+        Ended::Full { drawn, wanted } => put_full(text, drawn, wanted),
+        Ended::Memory => text.put_text("memory"),
+        Ended::NoBase => text.put_text("nobase"),
     }
 }
 
-// The line of a row that ended otherwise than with `ok`.
+// The line of an event that replied, whose name the counter shows.
 #[inline(always)]
-fn push_other(
-    out: &mut Vec<u8>,
-    counter: &Counter,
-    line: &mut Line,
-    row: Row,
-) -> Result<(), AllocError>
-    requires { counter.now ≡ decimal row.name ++ codes " ok\n" }
-    ensures { OnOk result (out.new.items ≡ out.old.items ++ row_text row) }
+fn put_replied(text: &mut Text, counter: &Counter, name: u32, reply: Reply)
+    requires counter { counter.now ≡ counted name }
+    requires room { LINE_ROOM ≤ text.old.room }
+    ensures { text.new.text ≡ text.old.text ++ (decimal name ++ codes " " ++ reply_text reply ++ codes "\n") }
 {
-    line.clear();
-    line.put_text("\n");
-    put_ended(line, row.ended);
-    line.put_text(" ");
-    out.extend_from_slice(counter.digits())?;
-    out.extend_from_slice(line.as_slice())
+    match reply {
+        Reply::Ok => text.put(counter.front(), counter.digits() + 4),
+        _ => {
+            text.put(counter.front(), counter.digits() + 1);
+            put_reply(text, reply);
+            text.put_text("\n");
+        }
+    }
+}
+
+// The line of an event that ended somehow, whose name the counter shows.
+#[inline(always)]
+fn put_other(text: &mut Text, counter: &Counter, name: u32, ended: Ended)
+    requires counter { counter.now ≡ counted name }
+    requires room { LINE_ROOM ≤ text.old.room }
+    ensures { text.new.text ≡ text.old.text ++ (decimal name ++ codes " " ++ ended_text ended ++ codes "\n") }
+{
+    text.put(counter.front(), counter.digits() + 1);
+    put_ended(text, ended);
+    text.put_text("\n");
 }
 
 // The line of a row, whose name the counter shows.
 #[inline(always)]
-fn push_row(
-    out: &mut Vec<u8>,
-    counter: &Counter,
-    line: &mut Line,
-    row: Row,
-) -> Result<(), AllocError>
-    requires { counter.now ≡ decimal row.name ++ codes " ok\n" }
-    ensures { OnOk result (out.new.items ≡ out.old.items ++ row_text row) }
+fn put_row(text: &mut Text, counter: &Counter, row: Row)
+    requires counter { counter.now ≡ counted row.name }
+    requires room { LINE_ROOM ≤ text.old.room }
+    ensures { text.new.text ≡ text.old.text ++ row_text row }
 {
     match row.ended {
-        Ended::Reply {
-            reply: Reply::Ok,
-            ..
-        } => out.extend_from_slice(counter.with_ok()),
-        _ => push_other(out, counter, line, row),
+        Ended::Reply { reply, .. } => put_replied(text, counter, row.name, reply),
+        _ => put_other(text, counter, row.name, row.ended),
     }
 }
 
 // A word and its number.
-fn push_field(out: &mut Vec<u8>, buffer: &mut Buffer, word: &str, n: u64) -> Result<(), AllocError>
-    ensures { OnOk result (out.new.items ≡ out.old.items ++ field_text word.now n) }
+fn put_field(text: &mut Text, word: &str, n: u64)
+    requires room { length word.now + 24 ≤ text.old.room }
+    ensures text { text.new.text ≡ text.old.text ++ field_text word.now n }
+    ensures room { text.old.room ≤ text.new.room + length word.now + 20 }
 {
-    push_text(out, word)?;
-    push_number(out, buffer, n)
+    text.put_text(word);
+    text.put_number(n);
 }
 
 // The line of the totals.
-fn push_totals(out: &mut Vec<u8>, buffer: &mut Buffer, totals: Totals) -> Result<(), AllocError>
-    ensures { OnOk result (out.new.items ≡ out.old.items ++ totals_text totals) }
+fn put_totals(text: &mut Text, totals: Totals)
+    requires { LINE_ROOM ≤ text.old.room }
+    ensures { text.new.text ≡ text.old.text ++ totals_text totals }
 {
-    push_field(out, buffer, "totals forced ", totals.forced)?;
-    push_field(out, buffer, " steps ", totals.steps)?;
-    push_field(out, buffer, " givenup ", totals.given_up)?;
-    push_field(out, buffer, " dues ", totals.dues)?;
-    end_line(out)
+    put_field(text, "totals forced ", totals.forced);
+    put_field(text, " steps ", totals.steps);
+    put_field(text, " givenup ", totals.given_up);
+    put_field(text, " dues ", totals.dues);
+    text.put_text("\n");
 }
 
 // Whether a row is given up.
@@ -144,18 +136,22 @@ fn lines(alloc: Global, closed: &Closed) -> Result<Printed, AllocError>
     ensures text { IfOk result (λ r. r.text.items ≡ report_of closed.now) }
     ensures given_up { IfOk result (λ r. r.has_given_up ≡ some_given_up closed.now (length closed.now.rows)) }
 {
-    let mut text = Vec::new(alloc);
-    let mut line = Line::new();
+    let mut text = Text::new(alloc);
     let mut counter = Counter::new();
     let mut has_given_up = false;
     for i in 0..closed.rows() {
+        text.make_room()?;
         counter.next(u64::from(i));
         let row = closed.row(i + 1);
         has_given_up |= is_given_up(row);
-        push_row(&mut text, &counter, &mut line, row)?;
+        put_row(&mut text, &counter, row);
     }
-    push_totals(&mut text, &mut Buffer::new(), closed.totals())?;
-    Ok(Printed { text, has_given_up })
+    text.make_room()?;
+    put_totals(&mut text, closed.totals());
+    Ok(Printed {
+        text: text.into_bytes(),
+        has_given_up,
+    })
 }
 
 /// The report of a closed book: a line for each row in order of name, which is the name, a space, and `ok`, the decimal

@@ -1,11 +1,27 @@
-use Rattle.std.proofs.Common.{◌≡◌, ◌++◌, decimal}
-use Rattle.report_text.specs.Report.{row_text, ended_text}
-use Rattle.report_text.proofs.Digits.{on_ok, line_joined}
-use Rattle.report_text.proofs.push_other.Goals as goal
+use Rattle.std.proofs.Common.{◌≡◌, ◌++◌, ◌∷◌, [], ◌+◌, decimal, take, arith}
+use Rattle.report_text.specs.Report.{ended_text}
+use Rattle.report_text.proofs.Digits.{name_digits, name_front, line_joined}
+use Rattle.report_text.proofs.put_other.Goals as goal
+
+pub overflow_add-digits : goal.overflow_add-digits
+overflow_add-digits c = let d = name_digits c.args.name c.digits.result c.args.counter.now c.requires.counter c.ranges.name.fits c.digits.ensures in omega (arith, d.1)
+
+pub put-requires-clause-within : goal.put-requires-clause-within
+put-requires-clause-within c = let d = name_digits c.args.name c.digits.result c.args.counter.now c.requires.counter c.ranges.name.fits c.digits.ensures in omega (arith, d.1, c.front.ensures.long)
+
+pub put_ended-requires : goal.put_ended-requires
+put_ended-requires c =
+    let d = name_digits c.args.name c.digits.result c.args.counter.now c.requires.counter c.ranges.name.fits c.digits.ensures in
+    record { room = omega (arith, d.1, c.put.ensures.room, c.requires.room) }
+
+pub put_text-requires : goal.put_text-requires
+put_text-requires c =
+    let d = name_digits c.args.name c.digits.result c.args.counter.now c.requires.counter c.ranges.name.fits c.digits.ensures in
+    omega (arith, d.1, c.put.ensures.room, c.put_ended.ensures.room, c.requires.room)
 
 pub returns : goal.returns
 returns c =
-    let name : c.digits.result.now ≡ decimal c.args.row.name = c.digits.ensures (decimal c.args.row.name) c.requires in
-    let whole : c.extend_from_slice.new.self.items ++ c.as_slice.result.now ≡ c.args.out.now.items ++ row_text c.args.row =
-    rw (c.in_ok-extend_from_slice.ensures.items, c.as_slice.ensures, c.put_text-2.ensures.text, c.put_ended.ensures.text, c.put_text.ensures.text, c.clear.ensures, name) (line_joined c.args.out.now.items (decimal c.args.row.name) (ended_text c.args.row.ended)) in
-    on_ok c.extend_from_slice-2.result c.extend_from_slice-2.new.self.items _ _ _ c.extend_from_slice-2.ensures.items whole
+    let d = name_digits c.args.name c.digits.result c.args.counter.now c.requires.counter c.ranges.name.fits c.digits.ensures in
+    let name : take (c.digits.result + 1) c.front.result.now ≡ decimal c.args.name ++ 32 ∷ [] =
+    name_front c.args.name c.digits.result 1 c.args.counter.now c.front.result.now c.requires.counter d.0 (omega (arith, d.1)) c.front.ensures.front in
+    rw (c.put_text.ensures.text, c.put_ended.ensures.text, c.put.ensures.text, name) (line_joined c.args.text.now.text (decimal c.args.name) (ended_text c.args.ended))

@@ -1,6 +1,0 @@
-use Rattle.std.proofs.Common.{rules}
-use Rattle.std.proofs.lemmas.List.{drop_all}
-use Rattle.report_text.proofs.line.Line.clear.Goals as goal
-
-pub returns : goal.returns
-returns c = search (rules, drop_all)
