@@ -18,6 +18,10 @@ use crate::versions::Said;
 use lazy_rec::limits::MOST_EVENTS;
 use lazy_rec::{Event, Kind, Op};
 
+// No common line has more bytes: a word has at most seven, and a number at most ten. So many bytes are asked for once, so that a
+// part of the line need not be.
+const MOST_LINE_BYTES: usize = 32;
+
 // An operation with an argument, whose word and a space begin the bytes, and what follows them. `split`, which form 1 lacks, isn't
 // looked for.
 #[inline(always)]
@@ -158,26 +162,27 @@ fn first_of(name: u64) -> Said
     }
 }
 
-/// The event of the first line and the bytes after the line, where the line is as most are and its event may stand next.
+/// The event of the first line and the bytes after the line, where the line is as most are and its event may stand next. The last
+/// lines of a text are left to the reader of any line.
 #[inline(always)]
 pub fn common_event<'a>(before: &Script, bytes: &'a [u8]) -> Option<(Event, &'a [u8])>
     ensures { IfSome result (λ r. IsCommonEvent before.now bytes.entry.now r.0 r.1.now) }
 {
-    if before.count() >= MOST_EVENTS as usize {
+    if before.count() >= MOST_EVENTS as usize || bytes.len() < MOST_LINE_BYTES {
         return None;
     }
     let form = before.form_of();
-    if let Some((op, rest)) = with_argument(bytes) {
-        let (base, more) = number_before(form, rest, b' ')?;
-        let (arg, after) = number_before(form, more, b'\n')?;
-        let Ok(event) = on_base(before, op, first_of(base), arg) else {
+    if let Some((op, rest)) = with_base(bytes) {
+        let (base, after) = number_before(form, rest, b'\n')?;
+        let Ok(event) = on_base(before, op, first_of(base), 0) else {
             return None;
         };
         return Some((event, after));
     }
-    if let Some((op, rest)) = with_base(bytes) {
-        let (base, after) = number_before(form, rest, b'\n')?;
-        let Ok(event) = on_base(before, op, first_of(base), 0) else {
+    if let Some((op, rest)) = with_argument(bytes) {
+        let (base, more) = number_before(form, rest, b' ')?;
+        let (arg, after) = number_before(form, more, b'\n')?;
+        let Ok(event) = on_base(before, op, first_of(base), arg) else {
             return None;
         };
         return Some((event, after));

@@ -76,6 +76,14 @@ impl Script {
         self.events.as_slice()
     }
 
+    /// The kinds of the events, in order.
+    pub fn kinds(&self) -> &[Kind]
+        ensures kinds { AreKindsOf self.now.events result.now }
+        ensures rules { IsWritable self.now }
+    {
+        self.kinds.as_slice()
+    }
+
     /// The number of events.
     pub(crate) fn count(&self) -> usize
         ensures count { result ≡ length self.now.events }

@@ -7,14 +7,14 @@ returns-in-Some c =
     let s = c.args.before.now in
     let room : length s.events < 200000 = omega (arith, c.if-count.false, c.count.ensures.count) in
     let found = c.in-Some.ensures in
-    common_argument s c.form_of-form.result c.args.bytes.now c.in-Some.rest.now c.in_ok-base.more.now c.in_ok-arg.after.now c.in-Some.op c.in_ok-base.base c.in_ok-arg.arg c.first_of.result c.in-Ok.event c.form_of-form.ensures c.first_of.ensures room found.word found.syntax found.in_form c.in_ok-base.ensures c.in_ok-arg.ensures c.in-Ok.ensures
+    common_base s c.form_of-form.result c.args.bytes.now c.in-Some.rest.now c.in_ok-base.after.now c.in-Some.op c.in_ok-base.base c.first_of.result c.in-Ok.event c.form_of-form.ensures c.first_of.ensures room found.word found.syntax found.in_form c.in_ok-base.ensures c.in-Ok.ensures
 
-pub returns-in-Some-with_base : goal.returns-in-Some-with_base
-returns-in-Some-with_base c =
+pub returns-in-Some-with_argument : goal.returns-in-Some-with_argument
+returns-in-Some-with_argument c =
     let s = c.args.before.now in
     let room : length s.events < 200000 = omega (arith, c.if-count.false, c.count.ensures.count) in
-    let found = c.in-Some-with_base.ensures in
-    common_base s c.form_of-form.result c.args.bytes.now c.in-Some-with_base.rest.now c.in_ok-base-2.after.now c.in-Some-with_base.op c.in_ok-base-2.base c.first_of-in-Some-with_base.result c.in-Ok-on_base.event c.form_of-form.ensures c.first_of-in-Some-with_base.ensures room found.word found.syntax found.in_form c.in_ok-base-2.ensures c.in-Ok-on_base.ensures
+    let found = c.in-Some-with_argument.ensures in
+    common_argument s c.form_of-form.result c.args.bytes.now c.in-Some-with_argument.rest.now c.in_ok-base-2.more.now c.in_ok-arg.after.now c.in-Some-with_argument.op c.in_ok-base-2.base c.in_ok-arg.arg c.first_of-in-Some-with_argument.result c.in-Ok-on_base.event c.form_of-form.ensures c.first_of-in-Some-with_argument.ensures room found.word found.syntax found.in_form c.in_ok-base-2.ensures c.in_ok-arg.ensures c.in-Ok-on_base.ensures
 
 pub returns-in-Some-with_other : goal.returns-in-Some-with_other
 returns-in-Some-with_other c =
