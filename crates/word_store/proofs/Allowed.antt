@@ -56,7 +56,7 @@ use Rattle.word_store.proofs.NameSteps.{names_drawn, names_past}
 use Rattle.word_store.proofs.NameSteps as names
 use Rattle.word_store.proofs.RowStep.{stores, stored_word, stored_words}
 
-set_here : (l : List Sight) (i : ℕ) (v w : Sight) → get_elem? l i ≡ some v → get_elem? (slice_set l i w) i ≡ some w
+pub set_here : (l : List Sight) (i : ℕ) (v w : Sight) → get_elem? l i ≡ some v → get_elem? (slice_set l i w) i ≡ some w
 set_here [] i v w e = absurd (some-ne-none v (sym e))
 set_here (x ∷ xs) zero v w e = refl
 set_here (x ∷ xs) (suc i) v w e = set_here xs i v w e

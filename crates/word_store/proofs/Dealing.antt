@@ -80,7 +80,7 @@ module _ (k : Size) (nodes rows callers c : ℕ) (cs : List ℕ) (id : ℕ) (s :
   seat numbers once within all = record {
     size = λ _. f.size (omega arith);
     numbers_once = once;
-    wide = f.wide;
+    wide = λ _. f.wide (omega arith);
     seen = f.seen;
     told = f.told;
     places_up = f.places_up;

@@ -19,3 +19,8 @@ pub mod PassClaims
 pub mod PassRows
 pub mod Opening
 pub mod Dealing
+pub mod Nothing
+pub mod Joining
+pub mod Gathering
+pub mod ClosedWords
+pub mod LastWorld

@@ -126,7 +126,7 @@ module _ (k : Size) (s : St) (o : IsKept k s) (id : ℕ) (v : Sight) (me : get_e
   pub names_past : v.told ≡ [] → slice_index v.words 1 < k.rows → k.rows ≤ x → (k.callers ≡ 1 → v.words ≡ s.words) → Move k s o id v ws ws v.hand v.wasted
   names_past told some_left past exact =
       let all : sum_by (may_draw k.rows) s.views ≤ sum_by (λ (u : Sight). length u.numbers) s.views = sum_below (may_draw k.rows) (λ (u : Sight). length u.numbers) s.views (λ u. part_most (is_none_told u.told && ltb (slice_index u.words 1) k.rows) (length u.numbers)) in
-      let mine : may_draw k.rows v ≡ length v.numbers = ap₂ (λ (ts : List (List ℕ)) (b : Bool). cond {A = ℕ} (is_none_told ts && b) (length v.numbers) 0) told (lt-ltb (slice_index v.words 1) k.rows some_left) in
+      let mine : may_draw k.rows v ≡ length v.numbers = ap₂ (λ (ts : List (ℕ × ℕ × List ℕ)) (b : Bool). cond {A = ℕ} (is_none_told ts && b) (length v.numbers) 0) told (lt-ltb (slice_index v.words 1) k.rows some_left) in
       let w : Sight = sight_after v ws v.hand v.wasted in
       named v.hand refl refl refl refl refl refl f.hand f.works
       (λ more. (let none = no_draw k.rows w (omega (arith, more)) in ⊎_elim

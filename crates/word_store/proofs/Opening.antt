@@ -92,7 +92,7 @@ module _ (k : Size) (small : IsSmall k) where
         seats = λ j u at. subst (IsSeat k ws) (only_sight v u j at) (record {
           size = λ _. (refl, refl, refl, refl);
           numbers_once = run_distinct 0 k.callers;
-          wide = first_length k.nodes k.rows small.0 small.1;
+          wide = λ _. first_length k.nodes k.rows small.0 small.1;
           seen = grows_refl (shows k ws);
           told = λ i x e. absurd (some-ne-none x (sym e));
           places_up = omega arith;

@@ -8,7 +8,7 @@ use Rattle.heap_store.specs.World.{recs, node_at, state_at, holds}
 use Rattle.heap_store.specs.Rows.{word_at, word}
 use Rattle.heap_store.specs.Hand.{holds_claim}
 use Rattle.heap_store.proofs.GrowthLaws.{at_true}
-use Rattle.word_world.specs.Words.{places_of, state_word_at, record_word_at, row_word_at, record_words, row_words, state_of_word}
+use Rattle.word_world.specs.Words.{world_of, places_of, state_word_at, record_word_at, row_word_at, record_words, row_words, state_of_word}
 use Rattle.word_world.proofs.Tables.{tabulate-at}
 use Rattle.word_world.proofs.Worlds.{node_state}
 use Rattle.word_world.proofs.RowWords.{world_inside}
@@ -71,6 +71,9 @@ state_read v s x e n is = go (node_at (seen_by v) s) refl e
     go (Some m) h k = ap (option_map (λ (y : Node). y.state)) h ∙ ap Some (node_state v.nodes v.rows v.words s m (published_within v s x e) h ∙ ap state_of_word (sym is))
 
 -- a word of a row
+pub word_is : (nodes rows : ℕ) (ws : List ℕ) (i j : ℕ) → i < rows → j < 8 → word_at (world_of nodes rows ws) (suc i) j ≡ slice_index ws (row_word_at nodes i j)
+word_is nodes rows ws i j low few = ap (λ xs. word xs j) (tabulate-at (row_words nodes ws) 0 rows i [] low ∙ ap (row_words nodes ws) {x = 0 + i} {y = i} (omega arith))
+    ∙ (tabulate-at (λ m. slice_index ws (row_word_at nodes i m)) 0 8 j 0 few ∙ ap (λ m. slice_index ws (row_word_at nodes i m)) {x = 0 + j} {y = j} (omega arith))
+
 pub row_word_is : (v : Sight) (i j : ℕ) → i < v.rows → j < 8 → word_at (seen_by v) (suc i) j ≡ slice_index v.words (row_word_at v.nodes i j)
-row_word_is v i j low few = ap (λ ws. word ws j) (tabulate-at (row_words v.nodes v.words) 0 v.rows i [] low ∙ ap (row_words v.nodes v.words) {x = 0 + i} {y = i} (omega arith))
-    ∙ (tabulate-at (λ m. slice_index v.words (row_word_at v.nodes i m)) 0 8 j 0 few ∙ ap (λ m. slice_index v.words (row_word_at v.nodes i m)) {x = 0 + j} {y = j} (omega arith))
+row_word_is v = word_is v.nodes v.rows v.words

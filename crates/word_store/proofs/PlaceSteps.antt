@@ -217,7 +217,7 @@ module _ (k : Size) (s : St) (o : IsKept k s) (id : ℕ) (v : Sight) (me : get_e
     -- what is in hand is as it was seen, with the word
     same_in : (i : ℕ) → slice_index v.words i ≡ slice_index s.words i → slice_index (slice_set v.words (record_word_at p j) x) i ≡ slice_index (slice_set s.words (record_word_at p j) x) i
     same_in i e = ⊎_elim
-        (λ eq. ap (λ z. slice_index (slice_set v.words (record_word_at p j) x) z) eq ∙ (get_or-set_same v.words (record_word_at p j) x 0 (omega (arith, f.wide, inside, high))
+        (λ eq. ap (λ z. slice_index (slice_set v.words (record_word_at p j) x) z) eq ∙ (get_or-set_same v.words (record_word_at p j) x 0 (omega (arith, f.wide rights, inside, high))
         ∙ sym (ap (λ z. slice_index (slice_set s.words (record_word_at p j) x) z) eq ∙ get_or-set_same s.words (record_word_at p j) x 0 (omega (arith, o.wide, inside, high)))))
         (λ ne. at_other v.words i ne ∙ (e ∙ sym (at_other s.words i ne))) (cases_eq i (record_word_at p j))
 
@@ -231,7 +231,7 @@ module _ (k : Size) (s : St) (o : IsKept k s) (id : ℕ) (v : Sight) (me : get_e
         places_up = (let u = f.places_up in omega (arith, u, at_other v.words 0 (λ z. omega (arith, z)), at_other s.words 0 (λ z. omega (arith, z))));
         names_up = (let u = f.names_up in omega (arith, u, at_other v.words 1 (λ z. omega (arith, z)), at_other s.words 1 (λ z. omega (arith, z))));
         exact = λ all. ap (λ l. slice_set l (record_word_at p j) x) (f.exact all told);
-        wide = length-set v.words (record_word_at p j) x ∙ (f.wide ∙ sym (length-set s.words (record_word_at p j) x ∙ o.wide));
+        wide = length-set v.words (record_word_at p j) x ∙ (f.wide rights ∙ sym (length-set s.words (record_word_at p j) x ∙ o.wide));
         records = λ q i had few. same_in (record_word_at q i) (f.records told q i had few);
         states = λ q had. same_in (state_word_at q) (f.states told q had);
         row_words = λ i q had few. same_in (row_word_at k.nodes i q) (f.row_words told i q had few);
@@ -263,4 +263,4 @@ module _ (k : Size) (s : St) (o : IsKept k s) (id : ℕ) (v : Sight) (me : get_e
     }
       where
         same_draw : may_draw k.rows (sight_after v (slice_set v.words (record_word_at p j) x) v.hand v.wasted) ≡ may_draw k.rows v
-        same_draw = ap₂ (λ (ts : List (List ℕ)) (n : ℕ). cond {A = ℕ} (is_none_told ts && ltb n k.rows) (length v.numbers) 0) (sym told) (at_other v.words 1 (λ z. omega (arith, z)))
+        same_draw = ap₂ (λ (ts : List (ℕ × ℕ × List ℕ)) (n : ℕ). cond {A = ℕ} (is_none_told ts && ltb n k.rows) (length v.numbers) 0) (sym told) (at_other v.words 1 (λ z. omega (arith, z)))

@@ -89,7 +89,7 @@ module _ (k : Size) (s : St) (o : IsKept k s) where
       own_seat = let f = o.seats id v me in record {
         size = f.size;
         numbers_once = f.numbers_once;
-        wide = m.sees.wide ∙ (m.long ∙ o.wide);
+        wide = λ _. m.sees.wide ∙ (m.long ∙ o.wide);
         seen = m.sees.seen;
         told = λ i x e. absurd (some-ne-none x (sym e));
         places_up = m.sees.places_up;

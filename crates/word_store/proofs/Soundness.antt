@@ -23,7 +23,7 @@ use Rattle.word_world.proofs.Tables.{length-tabulate}
 use Rattle.word_store.specs.declared.sight.Sight.{Sight}
 use Rattle.word_store.specs.declared.sight.Size.{Size}
 use Rattle.word_store.specs.Rule.{IsKept, IsSeat, shows, seen_by, running, hands_of, empty_hand, KnowsRows, plan_of}
-use Rattle.word_store.specs.Sound.{IsSound, IsAlone}
+use Rattle.word_store.specs.Sound.{IsSound, IsAlone, IsWhole}
 use Rattle.word_store.proofs.Sums.{one_true, pos_true, false_by, only_one, term_le, terms_le}
 use Rattle.word_store.proofs.Moves.{St, low_drawn}
 use Rattle.word_store.proofs.Seats.{place_given, name_open}
@@ -72,21 +72,24 @@ module _ (k : Size) (s : St) (o : IsKept k s) (id : ℕ) (v : Sight) (me : get_e
   pub same_world : seen_by v ≡ shows k s.words
   same_world = ap₂ (λ a b. world_of a b v.words) sizes.0 sizes.1 ∙ ap (shows k) fresh
 
-  -- ---- a single caller
+  -- ---- all callers
 
-  module _ (one : k.callers ≡ 1) where
-    others_idle : (j : ℕ) (u : Sight) → j ≢ id → get_elem? s.views j ≡ some u → u.hand ≡ empty_hand
-    others_idle j u ne at = (o.seats j u at).idle (none u.numbers (let two = terms_le (λ (x : Sight). length x.numbers) s.views id j v u ne me at in omega (arith, two, rights, one, o.callers)))
+  module _ (all : length v.numbers ≡ k.callers) where
+    others_none : (j : ℕ) (u : Sight) → j ≢ id → get_elem? s.views j ≡ some u → u.numbers ≡ []
+    others_none j u ne at = none u.numbers (let two = terms_le (λ (x : Sight). length x.numbers) s.views id j v u ne me at in omega (arith, two, all, o.callers))
       where
         none : (xs : List ℕ) → length xs ≡ 0 → xs ≡ []
         none [] e = refl
         none (x ∷ xs) e = absurd (omega (arith, e))
 
+    others_idle : (j : ℕ) (u : Sight) → j ≢ id → get_elem? s.views j ≡ some u → u.hand ≡ empty_hand
+    others_idle j u ne at = (o.seats j u at).idle (others_none j u ne at)
+
     only : (f : Hand → ℕ) → f empty_hand ≡ 0 → sum_by (λ (x : Sight). f x.hand) s.views ≡ f v.hand
     only f zero' = only_one (λ (x : Sight). f x.hand) s.views id v me (λ j u ne at. ap f (others_idle j u ne at) ∙ zero')
 
-    calm : (slice_index s.words 0 ≡ o.given) × (slice_index s.words 1 ≤ k.rows)
-    calm = let c = o.calm one in (omega (arith, c.0, o.drawn), c.1)
+    all_wasted : sum_by (λ (x : Sight). x.wasted) s.views ≡ v.wasted
+    all_wasted = only_one (λ (x : Sight). x.wasted) s.views id v me (λ j u ne at. (let m = (o.seats j u at).wasted_most in omega (arith, m, ap length (others_none j u ne at))))
 
     places_drawn : published_count (shows k s.words) + length v.hand.reserved ≡ fixed_places + o.given
     places_drawn = count_given v.hand.reserved (shows k s.words).nodes (fixed_places + o.given) (omega (arith, o.room, length-tabulate (node_of_words s.words) 0 (places_of k.nodes))) own.hand.reserved_once
@@ -108,21 +111,35 @@ module _ (k : Size) (s : St) (o : IsKept k s) (id : ℕ) (v : Sight) (me : get_e
       places = omega (arith, o.balance.places, sum-hands (λ (h : Hand). h.allowance) s.views, only (λ h. h.allowance) refl, sum-hands (λ (h : Hand). length h.reserved) s.views, only (λ h. length h.reserved) refl, sum_by-cons (λ (h : Hand). h.allowance) v.hand [], sum_by-cons (λ (h : Hand). length h.reserved) v.hand []);
     }
 
-    alone : IsAlone v
-    alone = record {
-      drawn = omega (arith, ap published_count same_world, places_drawn, calm.0, ap (λ ws. slice_index ws 0) fresh);
-      room = omega (arith, calm.0, o.room, sizes.0, ap (λ ws. slice_index ws 0) fresh);
+    pub whole_of : IsWhole v
+    whole_of = record {
+      drawn = omega (arith, ap published_count same_world, places_drawn, o.drawn, all_wasted, ap (λ ws. slice_index ws 0) fresh);
       claims = λ p c. pos_true _ (omega (arith, o.claims p, only (λ h. one_if (holds_claim h p)) refl, one_true _ (ap (λ w. is_claimed_at w p) (sym same_world) ∙ c)));
-      rows = omega (arith, calm.1, sizes.1, ap (λ ws. slice_index ws 1) fresh);
       names = λ i low open_yet. pos_true _ (omega (
         arith,
         o.names i,
         only (λ h. one_if (contains h.names (suc i))) refl,
         ap one_if (ap (λ w. is_ended_at (row_at w) (suc i)) (sym same_world) ∙ open_yet),
-        one_true _ (lt-ltb i (min (slice_index s.words 1) k.rows) (omega (arith, low, calm.1, ap (λ ws. slice_index ws 1) fresh))),
+        one_true _ (lt-ltb i (min (slice_index s.words 1) k.rows) (omega (arith, low, sizes.1, ap (λ ws. slice_index ws 1) fresh))),
       ));
-      vain = false_by _ (λ some. (let w = own.vain some in let all = term_le (λ (u : Sight). u.wasted) s.views id v me in let c = o.calm one in omega (arith, w, all, c.0)));
       budget = subst IsInBudget (ap₂ (λ w p. record { world = w; hands = v.hand ∷ []; plan = p }) (sym same_world) (sym sizes.3)) budget;
+    }
+
+  -- ---- a single caller
+
+  module _ (one : k.callers ≡ 1) where
+    whole : IsWhole v
+    whole = whole_of (let t = term_le (λ (u : Sight). length u.numbers) s.views id v me in omega (arith, t, one, rights, o.callers))
+
+    alone : IsAlone v
+    alone = record {
+      drawn = (let t = term_le (λ (u : Sight). u.wasted) s.views id v me in omega (arith, whole.drawn, t, (o.calm one).0));
+      room = omega (arith, o.drawn, (o.calm one).0, o.room, sizes.0, ap (λ ws. slice_index ws 0) fresh);
+      claims = whole.claims;
+      rows = omega (arith, (o.calm one).1, sizes.1, ap (λ ws. slice_index ws 1) fresh);
+      names = λ i low. whole.names i (omega (arith, low, (o.calm one).1, sizes.1, ap (λ ws. slice_index ws 1) fresh));
+      vain = false_by _ (λ some. (let w = own.vain some in let all = term_le (λ (u : Sight). u.wasted) s.views id v me in let c = o.calm one in omega (arith, w, all, c.0)));
+      budget = whole.budget;
     }
 
   -- ---- any seat
@@ -130,7 +147,7 @@ module _ (k : Size) (s : St) (o : IsKept k s) (id : ℕ) (v : Sight) (me : get_e
   pub sound_of : v.told ≡ [] → IsSound v
   sound_of told = record {
     small = (omega (arith, o.small.0, sizes.0), omega (arith, o.small.1, sizes.1));
-    wide = rw (sizes.0, sizes.1) own.wide;
+    wide = rw (sizes.0, sizes.1) (own.wide rights);
     well = rw (sizes.0, sizes.1, sizes.3, fresh) o.well;
     hand = subst (λ w. IsLawfulHand w v.hand) (sym same_world) own.hand;
     works = own.works;

@@ -4,6 +4,8 @@ pub mod Plays
 pub mod Views
 pub mod Opened
 pub mod Claims
+pub mod Joined
+pub mod Closing
 pub mod Passes
 pub mod Stores
 pub mod Props

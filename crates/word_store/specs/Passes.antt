@@ -1,6 +1,7 @@
 -- A pass as a view, and what its steps leave as it is.
 use Rattle.std.specs.Prelude.{◌≡◌, ℕ}
 use Rattle.std.specs.Arc.{arc_value}
+use Rattle.atomic_table.specs.Seated.{TableId}
 use Rattle.heap_store.specs.View.{View}
 use Rattle.word_store.specs.declared.sight.Sight.{Sight}
 use Rattle.word_store.specs.declared.pass.Pass.{Pass}
@@ -11,6 +12,10 @@ sight_of p = p.seat.me.0
 
 abbrev pub view_of : Pass → View
 view_of p = view_with p.seat.me.0 p.caller p.refused p.last p.drawn p.named
+
+-- which store the pass is of
+abbrev pub store_of : Pass → TableId
+store_of p = p.seat.table_id
 
 -- how many slots the table has: no step uses one
 abbrev pub slots_of : Pass → ℕ

@@ -1,5 +1,7 @@
 -- What each kind of step tells: of the seat before, the number found and the seat after.
 use Rattle.std.specs.Prelude.{◌≡◌, ◌≢◌, ℕ, suc, ◌+◌, ◌<◌, ◌≤◌, true, false, List, [], ◌∷◌, Some, None, length, slice_index, slice_set, bit_or}
+use mathlib.Core.Option.{some}
+use lib.ListN.{get_elem?}
 use Rattle.atomic_table.specs.Table.{Me, Step}
 use Rattle.lazy_rec.specs.declared.limits.TheConstants.{MOST_DRAWN}
 use Rattle.lazy_rec.specs.declared.places.Ref.{Ref}
@@ -15,10 +17,10 @@ use Rattle.heap_store.specs.Rows.{row_at, word_at, store_word}
 use Rattle.heap_store.specs.RowCalls.{hand_stored, vain_after, ends_row}
 use Rattle.heap_store.specs.Hand.{Hand, KeepsWords, contains, holds_claim, hand_reserved, hand_refused, hand_put, hand_won, hand_completed, hand_given_up, hand_named, hand_mine}
 use Rattle.heap_store.specs.Budget.{gain_at}
-use Rattle.word_world.specs.Words.{state_word_at, record_word_at, row_word_at, state_of_word}
+use Rattle.word_world.specs.Words.{world_of, state_word_at, record_word_at, row_word_at, state_of_word}
 use Rattle.word_store.specs.declared.sight.Sight.{Sight}
 use Rattle.word_store.specs.Rule.{seen_by}
-use Rattle.word_store.specs.Sound.{IsSound}
+use Rattle.word_store.specs.Sound.{IsSound, IsWhole}
 
 -- a seat with what it has seen, as the table knows it. The table's slots aren't used
 abbrev pub Sat : Type 0
@@ -66,6 +68,15 @@ pub record Looked (st : Step ℕ) (m : Sat) (r : ℕ) (n : Sat) : Type 0 where
   pub found : r ≡ slice_index n.0.words st.word
   -- the state of a claim in hand stays
   pub held : (p : ℕ) → holds_claim m.0.hand p ≡ true → slice_index n.0.words (state_word_at p) ≡ slice_index m.0.words (state_word_at p)
+
+-- the load with which closing begins: a seat that took in others sees the words as they are, and so what each of them had seen
+pub record LookedLast (m n : Sat) : Type 0 where
+  pub is : n.0 ≡ sight_after m.0 n.0.words m.0.hand m.0.wasted
+  pub slots : n.1 ≡ m.1
+  pub grows : Grows (seen_by m.0) (seen_by n.0)
+  pub told : (j : ℕ) (t : ℕ × ℕ × List ℕ) → get_elem? m.0.told j ≡ some t → Grows (world_of t.0 t.1 t.2) (seen_by n.0)
+  pub sound : IsSound n.0
+  pub whole : length m.0.numbers ≡ m.0.callers → IsWhole n.0
 
 -- a load with which the rows that are worked on take note of a refusal
 pub record Noted (st : Step ℕ) (m : Sat) (r : ℕ) (n : Sat) : Type 0 where

@@ -29,7 +29,7 @@ shows k ws = world_of k.nodes k.rows ws
 abbrev pub seen_by : Sight → World
 seen_by v = world_of v.nodes v.rows v.words
 
-abbrev pub is_none_told : List (List ℕ) → Bool
+abbrev pub is_none_told : List (ℕ × ℕ × List ℕ) → Bool
 is_none_told [] = true
 is_none_told _ = false
 
@@ -51,10 +51,10 @@ works_on_names h = list_all (λ (o : OpenRow). contains h.names o.name) h.open_r
 pub record IsSeat (k : Size) (ws : List ℕ) (v : Sight) : Type 0 where
   pub size : 0 < length v.numbers → (v.nodes ≡ k.nodes) × (v.rows ≡ k.rows) × (v.callers ≡ k.callers) × (v.plan ≡ (plan_of k))
   pub numbers_once : all_distinct v.numbers ≡ true
-  pub wide : length v.words ≡ word_count k.nodes k.rows
+  pub wide : 0 < length v.numbers → length v.words ≡ word_count k.nodes k.rows
   -- the world extends what it has seen
   pub seen : Grows (shows k v.words) (shows k ws)
-  pub told : (j : ℕ) (old : List ℕ) → get_elem? v.told j ≡ some old → Grows (shows k old) (shows k ws)
+  pub told : (j : ℕ) (t : ℕ × ℕ × List ℕ) → get_elem? v.told j ≡ some t → Grows (world_of t.0 t.1 t.2) (shows k ws)
   pub places_up : slice_index v.words 0 ≤ slice_index ws 0
   pub names_up : slice_index v.words 1 ≤ slice_index ws 1
   -- a seat of all callers sees each step, and one of none has nothing in hand

@@ -1,5 +1,5 @@
 -- What a seat may rely on: what it has seen is lawful, and agrees with what it has in hand.
-use Rattle.std.specs.Prelude.{◌≡◌, ℕ, suc, ◌+◌, ◌<◌, ◌≤◌, true, false, [], ◌∷◌, length, is_some, slice_index}
+use Rattle.std.specs.Prelude.{◌≡◌, ℕ, suc, ◌+◌, ◌<◌, ◌≤◌, min, true, false, [], ◌∷◌, length, is_some, slice_index}
 use Rattle.lazy_rec.specs.declared.limits.TheConstants.{MOST_DRAWN, MOST_EVENTS, MOST_NODES}
 use Rattle.heap_store.specs.World.{is_claimed_at, fixed_places}
 use Rattle.heap_store.specs.Rows.{row_at, is_ended_at}
@@ -19,6 +19,13 @@ pub record IsAlone (v : Sight) : Type 0 where
   pub rows : slice_index v.words 1 ≤ v.rows
   pub names : (i : ℕ) → i < slice_index v.words 1 → is_ended_at (row_at (seen_by v)) (suc i) ≡ false → contains v.hand.names (suc i) ≡ true
   pub vain : is_some v.hand.vain ≡ false
+  pub budget : IsInBudget (record { world = seen_by v; hands = v.hand ∷ []; plan = v.plan })
+
+-- the seat of all callers has all that is given, claimed and named, and the budget is kept with its hand alone
+pub record IsWhole (v : Sight) : Type 0 where
+  pub drawn : published_count (seen_by v) + length v.hand.reserved + v.wasted ≡ fixed_places + slice_index v.words 0
+  pub claims : (s : ℕ) → is_claimed_at (seen_by v) s ≡ true → holds_claim v.hand s ≡ true
+  pub names : (i : ℕ) → i < min (slice_index v.words 1) v.rows → is_ended_at (row_at (seen_by v)) (suc i) ≡ false → contains v.hand.names (suc i) ≡ true
   pub budget : IsInBudget (record { world = seen_by v; hands = v.hand ∷ []; plan = v.plan })
 
 pub record IsSound (v : Sight) : Type 0 where

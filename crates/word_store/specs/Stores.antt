@@ -1,6 +1,11 @@
 -- A store, as its callers see it.
 use Rattle.std.specs.Prelude.{◌≡◌, ℕ}
+use Rattle.atomic_table.specs.Seated.{TableId}
 use Rattle.word_store.specs.declared.store.Store.{Store}
+
+-- which store it is
+abbrev pub store_id : Store → TableId
+store_id s = s.seat.table_id
 
 -- the number of the caller that takes the next pass, and how many there are
 abbrev pub next_caller : Store → ℕ
@@ -25,3 +30,4 @@ pub record SameStore (s t : Store) : Type 0 where
   pub nodes : place_count t ≡ place_count s
   pub rows : row_count t ≡ row_count s
   pub callers : caller_count t ≡ caller_count s
+  pub id : store_id t ≡ store_id s

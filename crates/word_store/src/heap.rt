@@ -10,7 +10,7 @@ use word_world::{Layout, state_of};
 
 impl Pass {
     ghost use Rattle.heap_store.specs.View.{Refused};
-    ghost use Rattle.word_store.specs.Passes.{sight_of, view_of};
+    ghost use Rattle.word_store.specs.Passes.{sight_of, store_of, view_of};
 
     /// Notes a refusal with these numbers.
     fn refuse(&mut self, drawn: u64, k: u32) -> Full
@@ -21,6 +21,7 @@ impl Pass {
         ensures drawn { result.drawn ≡ drawn }
         ensures wanted { result.wanted ≡ k }
         ensures refused { Refused (view_of self.old) (view_of self.new) k result }
+        ensures store { store_of self.new ≡ store_of self.old }
     {
         let full = Full { drawn, wanted: k };
         self.note();
@@ -31,12 +32,22 @@ impl Pass {
 }
 
 impl Heap for Pass {
-    ghost use Rattle.word_store.specs.Passes.{view_of};
+    ghost use Rattle.std.specs.Prelude.{◌≡◌, ◌+◌, ◌<◌, ◌≤◌, true, Some, IfErr, IfOk};
+    ghost use Rattle.lazy_rec.specs.Named.{is_pending};
+    ghost use Rattle.heap_store.specs.World.{recs, state_at, holds, is_published};
+    ghost use Rattle.heap_store.specs.Hand.{IsInHand};
+    ghost use Rattle.heap_store.specs.View.{Quiet, Reserved, Refused, Fits, Put};
+    ghost use Rattle.word_store.specs.Passes.{store_of, view_of};
 
     ghost view = { view_of };
 
     #[inline]
-    fn read(&mut self, r: Ref) -> Rec {
+    fn read(&mut self, r: Ref) -> Rec
+        requires { is_published (recs (view_of self.old).seen) r.0 ≡ true }
+        ensures quiet { Quiet (view_of self.old) (view_of self.new) }
+        ensures rec { recs (view_of self.old).seen r.0 ≡ Some result }
+        ensures store { store_of self.new ≡ store_of self.old }
+    {
         let at = Layout::record_word(r);
         let first = self.look(at);
         let second = self.look(at + 1);
@@ -46,11 +57,21 @@ impl Heap for Pass {
     }
 
     #[inline]
-    fn state(&mut self, s: Ref) -> SuspState {
+    fn state(&mut self, s: Ref) -> SuspState
+        requires { holds (recs (view_of self.old).seen) s.0 is_pending ≡ true }
+        ensures quiet { Quiet (view_of self.old) (view_of self.new) }
+        ensures state { state_at (view_of self.new).seen s.0 ≡ Some result }
+        ensures store { store_of self.new ≡ store_of self.old }
+    {
         state_of(self.look(Layout::state_word(s)))
     }
 
-    fn reserve(&mut self, k: u32) -> Result<Run, Full> {
+    fn reserve(&mut self, k: u32) -> Result<Run, Full>
+        requires { k ≤ (view_of self.old).hand.allowance }
+        ensures ok { IfOk result (λ run. Reserved (view_of self.old) (view_of self.new) k run) }
+        ensures err { IfErr result (λ full. Refused (view_of self.old) (view_of self.new) k full) }
+        ensures store { store_of self.new ≡ store_of self.old }
+    {
         if k == 0 {
             let end = self.layout.nodes + 5;
             return Ok(Run::new(end, end));
@@ -68,7 +89,15 @@ impl Heap for Pass {
     }
 
     #[inline]
-    fn put(&mut self, run: &mut Run, rec: Rec) -> Ref {
+    fn put(&mut self, run: &mut Run, rec: Rec) -> Ref
+        requires held { IsInHand (view_of self.old).hand run.old }
+        requires left { run.old.next < run.old.end }
+        requires fits { Fits (view_of self.old) run.old.next rec }
+        ensures place { result.0 ≡ run.old.next }
+        ensures run { run.new ≡ record run.old { next = run.old.next + 1 } }
+        ensures put { Put (view_of self.old) (view_of self.new) run.old.next rec }
+        ensures store { store_of self.new ≡ store_of self.old }
+    {
         let words = rec.pack();
         let place = run.step();
         self.fill(place, 1, words[1]);

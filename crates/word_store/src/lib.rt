@@ -2,7 +2,10 @@
 #![tactic(auto)]
 
 mod claims;
+mod closed;
+mod closing;
 mod heap;
+pub mod named;
 pub mod pass;
 mod rows;
 pub mod rule;
@@ -10,5 +13,8 @@ pub mod sight;
 mod steps;
 pub mod store;
 
+pub use closed::ClosedStore;
+pub use closing::NotClosed;
+pub use named::{NamedPass, Naming};
 pub use pass::Pass;
 pub use store::Store;

@@ -1,10 +1,11 @@
 //! The rule of a store, and the names of its kinds of step.
 ghost use Rattle.word_store.specs.Rule.{IsKept, first_sight};
 ghost use Rattle.word_store.specs.Opened.{with_first, without_first};
-ghost use Rattle.word_store.specs.Plays.{Looked, Noted, Drew, Filled, Published, Tried, Spent, DrewName, StoredWord};
+ghost use Rattle.word_store.specs.Joined.{joined, no_sight};
+ghost use Rattle.word_store.specs.Plays.{Looked, LookedLast, Noted, Drew, Filled, Published, Tried, Spent, DrewName, StoredWord};
 
 use crate::sight::{Sight, Size};
-use atomic_table::{Play, Split, TableRule};
+use atomic_table::{Join, Play, Split, TableRule};
 
 /// What is true of a store between any two steps.
 pub struct Order;
@@ -85,4 +86,20 @@ impl Split<Sight> for Deal {
     ghost left = { without_first };
 
     ghost right = { with_first };
+}
+
+/// A caller's rights, and what it has in hand, pass to another seat.
+pub struct Gather;
+
+impl Join<Sight> for Gather {
+    ghost both = { joined };
+
+    ghost spent = { no_sight };
+}
+
+/// The first load of a seat that took others in.
+pub struct LastLook;
+
+impl Play<u8, Sight> for LastLook {
+    ghost then = { λ st before found after. LookedLast before after };
 }

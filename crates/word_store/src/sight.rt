@@ -24,8 +24,8 @@ pub struct Sight {
     pub ghost numbers: { List ℕ },
     // The words as its last step left them.
     pub ghost words: { List ℕ },
-    // The words that seats had seen which it took in since then.
-    pub ghost told: { List (List ℕ) },
+    // Of the seats that it took in since then: the store's size, and the words that each had seen.
+    pub ghost told: { List (ℕ × ℕ × List ℕ) },
     pub ghost hand: { Hand },
     // How many places it has added to the number of drawn places in vain.
     pub ghost wasted: { ℕ },

@@ -18,9 +18,9 @@ use word_world::Layout;
 /// A store for several callers: one table of words. Each caller takes its pass once, before or while others work.
 #[derive(Drop)]
 pub struct Store {
-    table: Arc<Words, Global>,
-    seat: Seat,
-    layout: Layout,
+    pub(crate) table: Arc<Words, Global>,
+    pub(crate) seat: Seat,
+    pub(crate) layout: Layout,
     callers: u32,
     next: u32,
     ghost tied: { seat.table_id ≡ (arc_value table).shared.table_id },
@@ -28,11 +28,12 @@ pub struct Store {
     ghost small: { (layout.nodes ≤ MOST_NODES) × (layout.rows ≤ MOST_EVENTS) × (1 ≤ callers) × (callers ≤ MOST_CALLERS) × (next ≤ callers) },
     ghost seen: { seat.me.0 ≡ opened_sight layout.nodes layout.rows callers (places_from next (callers - next)) },
     ghost bare: { seat.me.1 ≡ [] },
+    ghost keyed: { ((arc_value table).shared.key.nodes ≡ layout.nodes) × ((arc_value table).shared.key.rows ≡ layout.rows) × ((arc_value table).shared.key.callers ≡ callers) },
 }
 
 impl Store {
-    ghost use Rattle.word_store.specs.Stores.{IsOpened, next_caller, caller_count, place_count, row_count, SameStore};
-    ghost use Rattle.word_store.specs.Passes.{view_of};
+    ghost use Rattle.word_store.specs.Stores.{IsOpened, next_caller, caller_count, place_count, row_count, store_id, SameStore};
+    ghost use Rattle.word_store.specs.Passes.{store_of, view_of};
     ghost use Rattle.word_store.specs.Opened.{opened_view};
 
     /// A store of so many places beside the five fixed ones, of so many rows, for so many callers. It fails only for want of
@@ -72,6 +73,7 @@ impl Store {
     pub fn pass(&mut self) -> Result<Pass, NoMemory>
         requires left { next_caller self.old < caller_count self.old }
         ensures ok { IfOk result (λ p. view_of p ≡ opened_view (place_count self.old) (row_count self.old) (caller_count self.old) (next_caller self.old)) }
+        ensures of_it { IfOk result (λ p. store_of p ≡ store_id self.old) }
         ensures store { SameStore self.old self.new }
         ensures next { IfOk result (λ p. next_caller self.new ≡ next_caller self.old + 1) }
     {

@@ -8,8 +8,8 @@ pub spend-requires-clause-may : goal.spend-requires-clause-may
 spend-requires-clause-may c = let e = c.count_given_up-given_up.ensures in
     complete_may c.args.self.now c.count_given_up-given_up.new.self c.args.s.0 c.args.place c.args.steps c.count_given_up-given_up.result e.quiet c.requires.held e.now c.count_given_up-given_up.type_inv c.requires.small c.requires.value
 
-pub returns : goal.returns
-returns c = let e = c.count_given_up-given_up.ensures in let p = c.args.self.now in let q = c.count_given_up-given_up.new.self in let r = c.spend.new.self in
+pub returns-clause-completed : goal.returns-clause-completed
+returns-clause-completed c = let e = c.count_given_up-given_up.ensures in let p = c.args.self.now in let q = c.count_given_up-given_up.new.self in let r = c.spend.new.self in
     let held = ap (λ x. holds_claim x c.args.s.0) e.quiet.hand ∙ c.requires.held in
     let may = complete_may p q c.args.s.0 c.args.place c.args.steps c.count_given_up-given_up.result e.quiet c.requires.held e.now c.count_given_up-given_up.type_inv c.requires.small c.requires.value in
     let k = c.spend.ensures.play in

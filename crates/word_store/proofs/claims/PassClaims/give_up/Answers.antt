@@ -16,8 +16,8 @@ pub spend-requires-clause-may : goal.spend-requires-clause-may
 spend-requires-clause-may c = let e = c.count_given_up.ensures in
     give_up_may c.args.self.now c.count_given_up.new.self c.args.s.0 c.count_given_up.result c.saturating_add-given_up.result e.quiet e.now c.count_given_up.type_inv c.saturating_add-given_up.ensures c.requires.unbuilt c.requires.places
 
-pub returns : goal.returns
-returns c = let e = c.count_given_up.ensures in let p = c.args.self.now in let q = c.count_given_up.new.self in let r = c.spend.new.self in
+pub returns-clause-given_up : goal.returns-clause-given_up
+returns-clause-given_up c = let e = c.count_given_up.ensures in let p = c.args.self.now in let q = c.count_given_up.new.self in let r = c.spend.new.self in
     let mine = unbuilt_held (sight_of p).hand.claims c.args.s.0 c.requires.unbuilt in
     let held = ap (λ x. holds_claim x c.args.s.0) e.quiet.hand ∙ mine in
     let may = give_up_may p q c.args.s.0 c.count_given_up.result c.saturating_add-given_up.result e.quiet e.now c.count_given_up.type_inv c.saturating_add-given_up.ensures c.requires.unbuilt c.requires.places in
