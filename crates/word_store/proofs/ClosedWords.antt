@@ -1,12 +1,11 @@
 -- What the words of a closed store show at a place and in a row.
-use Rattle.std.proofs.Common.{◌≡◌, ◌≢◌, ℕ, suc, ◌+◌, ◌<◌, ◌≤◌, List, [], ◌∷◌, length, refl, sym, ap, ap₂, ◌∙◌, arith, Bool, true, false, cond, Option, Some, None, eqb}
+use Rattle.std.proofs.Common.{◌≡◌, ◌≢◌, ℕ, suc, ◌+◌, ◌<◌, ◌≤◌, List, [], ◌∷◌, length, refl, sym, ap, ap₂, ◌∙◌, arith, Bool, true, false, cond, Some, None, eqb}
 use Rattle.std.specs.Prelude.{slice_index, slice_index_or}
 use Rattle.std.proofs.lemmas.Bool.{eqb-true}
 use Rattle.std.proofs.lemmas.List.{get_or_default}
 use Rattle.lazy_rec.specs.declared.records.Rec.{Rec}
 use Rattle.lazy_rec.specs.declared.states.SuspState.{SuspState}
 use Rattle.lazy_rec.specs.Shown.{shown}
-use Rattle.heap_store.specs.declared.nodes.Node.{Node}
 use Rattle.heap_store.specs.World.{node_at}
 use Rattle.heap_store.specs.Rows.{word_at}
 use Rattle.word_world.specs.Words.{world_of, node_of_words, state_of_word, places_of, record_word_at, state_word_at, row_word_at}

@@ -1,20 +1,17 @@
 -- Closing: the seats are joined, and what the last one then knows of the store.
-use Rattle.std.proofs.Common.{◌≡◌, ◌≢◌, ℕ, zero, suc, ◌+◌, ◌<◌, ◌≤◌, ◌⊎◌, inl, inr, List, [], ◌∷◌, ◌++◌, length, refl, sym, ap, ap₂, ◌∙◌, arith, subst, true, false, Option, Some, None, min}
-use Rattle.std.specs.Prelude.{slice_index, slice_set, slice_get, sum_by, map}
-use Rattle.std.proofs.lemmas.Bool.{true≢false, or_cases}
+use Rattle.std.proofs.Common.{◌≡◌, ℕ, zero, suc, ◌+◌, ◌<◌, List, [], ◌∷◌, ◌++◌, length, refl, sym, ap, ap₂, ◌∙◌, arith, subst, false, Some, None}
+use Rattle.std.specs.Prelude.{slice_index, slice_set, slice_get, map}
 use Rattle.std.proofs.lemmas.List.{set-get_or, length-append}
-use mathlib.Core.Logic.{⊎_elim}
-use mathlib.Core.Option.{some, some-ne-none}
+use mathlib.Core.Option.{some}
 use lib.ListN.{get_elem?}
 use Rattle.atomic_table.specs.Table.{keeps, Allows, Joins}
-use Rattle.heap_store.specs.World.{is_claimed_at}
 use Rattle.heap_store.specs.Growth.{Grows}
 use Rattle.heap_store.specs.Hand.{Hand, contains}
 use Rattle.word_world.specs.Words.{world_of, word_count}
 use Rattle.word_world.proofs.Worlds.{contains-append}
 use Rattle.word_store.specs.declared.sight.Sight.{Sight}
 use Rattle.word_store.specs.declared.sight.Size.{Size}
-use Rattle.word_store.specs.Rule.{IsKept, IsSeat, shows, seen_by, plan_of}
+use Rattle.word_store.specs.Rule.{IsKept, shows, plan_of}
 use Rattle.word_store.specs.Plays.{Sat, LookedLast, sight_after}
 use Rattle.word_store.specs.Joined.{MayClose, joined, joined_hand, gathered, no_sight}
 use Rattle.word_store.proofs.Moves.{Move, board}

@@ -1,5 +1,5 @@
 -- One seat takes another in, which has nothing in hand but names: the rule is kept.
-use Rattle.std.proofs.Common.{◌≡◌, ◌≢◌, ℕ, zero, suc, ◌+◌, ◌<◌, ◌≤◌, ◌⊎◌, inl, inr, List, [], ◌∷◌, ◌++◌, length, refl, sym, ap, ap₂, ◌∙◌, arith, subst, Bool, true, false, cond, ◌||◌, ◌&&◌, Option, Some, None, ltb, min}
+use Rattle.std.proofs.Common.{◌≡◌, ◌≢◌, ℕ, zero, suc, ◌+◌, ◌≤◌, ◌⊎◌, inl, inr, List, [], ◌∷◌, ◌++◌, length, refl, sym, ap, ap₂, ◌∙◌, arith, subst, Bool, true, false, cond, ◌||◌, Option, Some, None, ltb, min}
 use Rattle.std.specs.Prelude.{slice_index, slice_set, sum_by, is_some}
 use Rattle.std.specs.List.{list_any, list_all}
 use Rattle.std.proofs.lemmas.Bool.{true≢false, or_cases, or_left, or_right, eqb-true}
@@ -8,13 +8,11 @@ use mathlib.Core.Logic.{⊎_elim}
 use mathlib.Core.Option.{some, some-injective, some-ne-none}
 use mathlib.Core.Path.{fun_ext}
 use lib.ListN.{get_elem?}
-use Rattle.atomic_table.specs.Table.{Joins}
 use Rattle.lazy_rec.specs.Units.{credits}
 use Rattle.heap_store.specs.declared.claims.Full.{Full}
 use Rattle.heap_store.specs.declared.claims.HeldClaim.{HeldClaim}
 use Rattle.heap_store.specs.declared.claims.OpenRow.{OpenRow}
-use Rattle.heap_store.specs.World.{World, recs, is_done, is_claimed_at, is_published}
-use Rattle.heap_store.specs.Rows.{row_at, is_ended_at}
+use Rattle.heap_store.specs.World.{is_done}
 use Rattle.heap_store.specs.Growth.{Grows}
 use Rattle.heap_store.specs.Hand.{Hand, IsLawfulHand, contains, all_distinct, holds_claim, is_built, claim_places, is_claim_well, is_marked_well}
 use Rattle.heap_store.specs.Shared.{one_if}
@@ -23,11 +21,10 @@ use Rattle.word_world.specs.Words.{world_of, word_count}
 use Rattle.word_world.proofs.Worlds.{contains-append, append_distinct}
 use Rattle.word_store.specs.declared.sight.Sight.{Sight}
 use Rattle.word_store.specs.declared.sight.Size.{Size}
-use Rattle.word_store.specs.Rule.{IsKept, IsSeat, shows, running, hands_of, empty_hand, may_draw, is_none_told, works_on_names, KnowsRows, plan_of}
+use Rattle.word_store.specs.Rule.{IsKept, IsSeat, shows, running, hands_of, empty_hand, may_draw, plan_of}
 use Rattle.word_store.specs.Joined.{MayClose, joined, joined_hand, first_full, no_sight}
-use Rattle.word_store.proofs.Sums.{at_set, sum-changed, terms_le, one_true, one_most, false_by, zero_false}
+use Rattle.word_store.proofs.Sums.{at_set, sum-changed, terms_le, one_true, one_most, false_by}
 use Rattle.word_store.proofs.Moves.{St}
-use Rattle.word_store.proofs.Seats.{name_open}
 use Rattle.word_store.proofs.Soundness.{sum-hands}
 use Rattle.word_store.proofs.Opening.{empty_lawful}
 use Rattle.word_store.proofs.Nothing.{nothing_grows}

@@ -1,30 +1,30 @@
 -- What is known of the last world, when the seats of all callers are one.
-use Rattle.std.proofs.Common.{◌≡◌, ℕ, zero, suc, ◌+◌, ◌-◌, ◌<◌, ◌≤◌, List, [], ◌∷◌, length, refl, sym, ap, ap₂, ◌∙◌, arith, subst, Bool, true, false, cond, ◌||◌, Option, Some, None, min}
-use Rattle.std.specs.Prelude.{slice_index, slice_get, sum_by, map}
-use Rattle.std.specs.List.{list_any}
+use Rattle.std.proofs.Common.{◌≡◌, ℕ, zero, suc, ◌-◌, ◌<◌, ◌≤◌, List, [], ◌∷◌, length, refl, sym, ap, ap₂, ◌∙◌, arith, subst, Bool, true, false, cond, ◌||◌, Some, None, min}
+use Rattle.std.specs.Prelude.{slice_index, slice_get, map}
 use Rattle.std.proofs.lemmas.Bool.{true≢false}
 use Rattle.std.proofs.lemmas.List.Sums.{sum_by-cons}
 use mathlib.Core.Path.{fun_ext}
 use Rattle.lazy_rec.specs.Units.{credits}
 use Rattle.heap_store.specs.declared.claims.HeldClaim.{HeldClaim}
-use Rattle.heap_store.specs.World.{World, is_claimed_at, is_done, fixed_places}
+use Rattle.heap_store.specs.World.{World, is_claimed_at, is_done}
 use Rattle.heap_store.specs.Rows.{row_at, is_ended_at}
 use Rattle.heap_store.specs.Growth.{Grows}
 use Rattle.heap_store.specs.Hand.{Hand, contains, holds_claim, is_built, claim_places, places_from}
-use Rattle.heap_store.specs.Budget.{IsInBudget, is_being_built, credits_brought, sum_records}
+use Rattle.heap_store.specs.Budget.{IsInBudget, credits_brought, sum_records}
 use Rattle.heap_store.specs.View.{published_count}
-use Rattle.word_world.specs.Words.{world_of, node_of_words, row_words, places_of, first_words}
+use Rattle.heap_store.proofs.BoundLaws.{steps_bound, total_le}
+use Rattle.word_world.specs.Words.{world_of, node_of_words, row_words, places_of}
 use Rattle.word_world.specs.LawfulWords.{IsLawfulWords}
 use Rattle.word_world.proofs.Tables.{length-tabulate}
 use Rattle.word_store.specs.declared.sight.Sight.{Sight}
 use Rattle.word_store.specs.declared.pass.Pass.{Pass}
-use Rattle.word_store.specs.Rule.{seen_by, empty_hand}
+use Rattle.word_store.specs.Rule.{seen_by}
 use Rattle.word_store.specs.Sound.{IsWhole}
 use Rattle.word_store.specs.Plays.{Sat, LookedLast}
 use Rattle.word_store.specs.Passes.{sight_of, view_of}
 use Rattle.word_store.specs.Opened.{opened_sight}
 use Rattle.word_store.specs.Joined.{MayClose, IsLastSeat, gathered}
-use Rattle.word_store.specs.Closing.{IsLast, IsClosing, last_of}
+use Rattle.word_store.specs.Closing.{IsClosing, last_of}
 use Rattle.word_store.proofs.Sums.{false_by}
 use Rattle.word_store.proofs.Opening.{run_length}
 use Rattle.word_store.proofs.PassSteps.{one_of}
@@ -111,6 +111,9 @@ module _ (nodes rows callers next : ℕ) (some : 1 ≤ callers) (low : next ≤ 
       none_claimed : (s : ℕ) → is_claimed_at (world_of nodes rows ws) s ≡ false
       none_claimed s = false_by _ (λ c. true≢false (sym (whole.claims s (ap (λ w. is_claimed_at w s) world_is ∙ c)) ∙ (ap (λ (h : Hand). holds_claim h s) hand_is ∙ ap (λ (cs : List HeldClaim). contains (claim_places cs) s) idle.claims)))
 
+      last_budget : IsInBudget (record { world = world_of nodes rows ws; hands = []; plan = None })
+      last_budget = no_hand (world_of nodes rows ws) n.0.hand (ap (λ (h : Hand). h.claims) hand_is ∙ idle.claims) (ap (λ (h : Hand). h.reserved) hand_is ∙ idle.reserved) (subst IsInBudget (ap₂ (λ w p. record { world = w; hands = n.0.hand ∷ []; plan = p }) world_is sizes.3) whole.budget)
+
       pub closing : IsClosing nodes rows ps (last_of nodes rows ws)
       closing = record {
         last = record {
@@ -119,7 +122,8 @@ module _ (nodes rows callers next : ℕ) (some : 1 ≤ callers) (low : next ≤ 
           roots = well.roots;
           funded = well.funded;
           unclaimed = none_claimed;
-          budget = no_hand (world_of nodes rows ws) n.0.hand (ap (λ (h : Hand). h.claims) hand_is ∙ idle.claims) (ap (λ (h : Hand). h.reserved) hand_is ∙ idle.reserved) (subst IsInBudget (ap₂ (λ w p. record { world = w; hands = n.0.hand ∷ []; plan = p }) world_is sizes.3) whole.budget);
+          budget = last_budget;
+          steps = omega (arith, total_le (world_of nodes rows ws) well.world, steps_bound (record { world = world_of nodes rows ws; hands = []; plan = None }) well.world well.funded last_budget tt);
           places = omega (arith, whole.drawn, ap published_count world_is, ap (λ (l : List ℕ). slice_index l 0) words);
         };
         all_places = length-tabulate (node_of_words ws) 0 (places_of nodes);

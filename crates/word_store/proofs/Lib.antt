@@ -24,3 +24,4 @@ pub mod Joining
 pub mod Gathering
 pub mod ClosedWords
 pub mod LastWorld
+pub mod RuleLaws

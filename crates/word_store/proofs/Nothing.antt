@@ -1,14 +1,14 @@
 -- Words that are none show an empty world, which every world extends.
-use Rattle.std.proofs.Common.{◌≡◌, ℕ, zero, suc, ◌+◌, ◌-◌, ◌<◌, ◌≤◌, List, [], ◌∷◌, refl, sym, ap, ◌∙◌, arith, Option, Some, None, replicate}
-use Rattle.std.specs.Prelude.{slice_index_or, option_map, option_and_then}
+use Rattle.std.proofs.Common.{◌≡◌, ℕ, zero, suc, ◌+◌, ◌-◌, List, [], ◌∷◌, refl, sym, ap, ◌∙◌, arith, Option, Some, None, replicate}
+use Rattle.std.specs.Prelude.{option_map, option_and_then}
 use Rattle.std.proofs.lemmas.Bool.{cases_lt}
 use mathlib.Core.Logic.{⊎_elim}
 use Rattle.heap_store.specs.declared.nodes.Node.{Node}
-use Rattle.heap_store.specs.World.{World, node_at, recs, state_at}
+use Rattle.heap_store.specs.World.{World, node_at}
 use Rattle.heap_store.specs.Rows.{Row, row_at}
 use Rattle.heap_store.specs.Growth.{Grows, begun_of}
 use Rattle.lazy_rec.specs.declared.events.Event.{Event}
-use Rattle.heap_store.specs.Plain.{plain_world, five_records, no_words}
+use Rattle.heap_store.specs.Plain.{no_words}
 use Rattle.heap_store.proofs.PlainOpen.{rowless}
 use Rattle.word_world.specs.Words.{world_of, tabulate, node_of_words, row_words, places_of}
 use Rattle.word_world.proofs.Tables.{tabulate-at, tabulate-past}

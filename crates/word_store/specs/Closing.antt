@@ -7,7 +7,7 @@ use Rattle.heap_store.specs.Hand.{contains}
 use Rattle.heap_store.specs.Lawful.{IsLawful}
 use Rattle.heap_store.specs.Legal.{IsLegal}
 use Rattle.heap_store.specs.LookedAt.{HasRoots}
-use Rattle.heap_store.specs.Budget.{IsFunded, IsInBudget}
+use Rattle.heap_store.specs.Budget.{IsFunded, IsInBudget, dues, total_steps}
 use Rattle.heap_store.specs.View.{published_count}
 use Rattle.word_world.specs.Words.{world_of, places_of}
 use Rattle.word_store.specs.declared.pass.Pass.{Pass}
@@ -32,6 +32,7 @@ pub record IsLast (l : Last) : Type 0 where
   pub funded : IsFunded l.world
   pub unclaimed : (s : ℕ) → is_claimed_at l.world s ≡ false
   pub budget : IsInBudget (record { world = l.world; hands = []; plan = None })
+  pub steps : total_steps l.world ≤ dues l.world
   pub places : published_count l.world ≤ fixed_places + l.places
 
 -- It extends what each pass had seen, and each drawn name that no pass has in hand has a row that is ended.

@@ -1,5 +1,5 @@
 -- Seats are joined: one takes another in.
-use Rattle.std.specs.Prelude.{◌≡◌, ℕ, ◌+◌, ◌<◌, List, [], ◌∷◌, ◌++◌, Option, Some, None, length}
+use Rattle.std.specs.Prelude.{◌≡◌, ◌+◌, ◌<◌, List, [], ◌∷◌, ◌++◌, Option, Some, None, length}
 use Rattle.heap_store.specs.declared.claims.Full.{Full}
 use Rattle.heap_store.specs.Hand.{Hand}
 use Rattle.word_store.specs.declared.sight.Sight.{Sight}

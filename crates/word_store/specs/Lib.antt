@@ -6,6 +6,7 @@ pub mod Opened
 pub mod Claims
 pub mod Joined
 pub mod Closing
+pub mod Laws
 pub mod Passes
 pub mod Stores
 pub mod Props

@@ -5,6 +5,7 @@ mod claims;
 mod closed;
 mod closing;
 mod heap;
+pub mod laws;
 pub mod named;
 pub mod pass;
 mod rows;

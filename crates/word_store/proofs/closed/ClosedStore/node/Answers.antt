@@ -2,7 +2,7 @@ use Rattle.std.proofs.Common.{◌≡◌, ℕ, ◌+◌, ◌<◌, ap, sym, ◌∙�
 use Rattle.std.specs.Prelude.{slice_index}
 use Rattle.lazy_rec.specs.States.{state_word, state_in_range}
 use Rattle.heap_store.specs.World.{node_at}
-use Rattle.word_world.specs.Words.{state_of_word, state_word_at, record_word_at, places_of}
+use Rattle.word_world.specs.Words.{state_of_word, record_word_at, places_of}
 use Rattle.word_store.proofs.ClosedWords.{read_at, node_past, node_none, node_some}
 use Rattle.word_store.proofs.closed.ClosedStore.node.Goals as goal
 

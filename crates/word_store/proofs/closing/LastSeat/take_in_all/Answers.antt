@@ -1,5 +1,4 @@
-use Rattle.std.proofs.Common.{◌≡◌, ◌∷◌, ◌++◌, List, length, map, sym, ap, ◌∙◌, subst}
-use Rattle.word_store.specs.declared.pass.Pass.{Pass}
+use Rattle.std.proofs.Common.{◌∷◌, ◌++◌, length, map, sym, ap, ◌∙◌, subst}
 use Rattle.word_store.specs.declared.sight.Sight.{Sight}
 use Rattle.word_store.specs.Passes.{sight_of}
 use Rattle.word_store.specs.Joined.{MayClose, joined}

@@ -1,11 +1,9 @@
-use Rattle.std.proofs.Common.{◌≡◌, ◌-◌, ◌<◌, ◌≤◌, List, length, map, sym, ap, ◌∙◌, arith, subst}
-use Rattle.heap_store.specs.Hand.{places_from}
+use Rattle.std.proofs.Common.{◌≡◌, List, length, map, sym, ap, ◌∙◌, arith, subst}
 use Rattle.word_store.specs.declared.sight.Sight.{Sight}
 use Rattle.word_store.specs.declared.pass.Pass.{Pass}
 use Rattle.word_store.specs.Passes.{sight_of}
-use Rattle.word_store.specs.Opened.{opened_sight}
 use Rattle.word_store.specs.Joined.{gathered}
-use Rattle.word_store.specs.Closing.{Last, IsClosing}
+use Rattle.word_store.specs.Closing.{IsClosing}
 use Rattle.word_store.proofs.LastWorld.{numbers, seat_is_last, closing, map_length}
 use Rattle.word_store.proofs.store.Store.close.Goals as goal
 

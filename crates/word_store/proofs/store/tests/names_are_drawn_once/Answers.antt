@@ -1,4 +1,4 @@
-use Rattle.std.proofs.Common.{◌≡◌, ℕ, ◌+◌, ◌*◌, ◌<◌, ◌≤◌, arith}
+use Rattle.std.proofs.Common.{arith}
 use Rattle.word_store.proofs.store.tests.names_are_drawn_once.Goals as goal
 
 pub pass-requires-3 : goal.pass-requires-3

@@ -1,0 +1,35 @@
+-- What the rule means for who uses a store.
+use Rattle.std.specs.Prelude.{◌≡◌, ◌≢◌, ℕ, ◌+◌, ◌*◌, ◌<◌, ◌≤◌, true, false, Some, length, sum_by, is_some}
+use mathlib.Core.Option.{some}
+use lib.ListN.{get_elem?}
+use Rattle.atomic_table.specs.Table.{State}
+use Rattle.lazy_rec.specs.declared.states.SuspState.{SuspState}
+use Rattle.lazy_rec.specs.States.{kept}
+use Rattle.heap_store.specs.World.{state_at, is_done}
+use Rattle.heap_store.specs.Hand.{Hand, holds_claim}
+use Rattle.heap_store.specs.Budget.{dues, direct_places, taken_steps, places_given}
+use Rattle.word_store.specs.declared.sight.Sight.{Sight}
+use Rattle.word_store.specs.declared.sight.Size.{Size}
+use Rattle.word_store.specs.Rule.{IsKept, shows, seen_by, running, hands_of}
+
+-- what a seat has seen done is done
+abbrev pub DoneStays : Type 0
+DoneStays = (k : Size) (s : State ℕ Sight) → IsKept k s → (j : ℕ) (v : Sight) → get_elem? s.views j ≡ some v → 0 < length v.numbers
+    → (p : ℕ) (state : SuspState) → state_at (seen_by v) p ≡ Some state → is_some (kept state) ≡ true → state_at (shows k s.words) p ≡ Some state
+
+-- a claim is in one hand
+abbrev pub ClaimsAreOnce : Type 0
+ClaimsAreOnce = (k : Size) (s : State ℕ Sight) → IsKept k s → (i j : ℕ) (u v : Sight) → i ≢ j → get_elem? s.views i ≡ some u → get_elem? s.views j ≡ some v
+    → (p : ℕ) → holds_claim u.hand p ≡ true → holds_claim v.hand p ≡ false
+
+-- that of a done suspension in none
+abbrev pub DoneIsUnclaimed : Type 0
+DoneIsUnclaimed = (k : Size) (s : State ℕ Sight) → IsKept k s → (j : ℕ) (v : Sight) → get_elem? s.views j ≡ some v
+    → (p : ℕ) → is_done (shows k s.words) p ≡ true → holds_claim v.hand p ≡ false
+
+abbrev pub WorkIsDue : Type 0
+WorkIsDue = (k : Size) (s : State ℕ Sight) → IsKept k s → taken_steps (shows k s.words) ≤ dues (shows k s.words)
+
+abbrev pub PlacesAreDue : Type 0
+PlacesAreDue = (k : Size) (s : State ℕ Sight) → IsKept k s
+    → places_given (running k s.words s.views) + sum_by (λ (h : Hand). h.allowance) (hands_of s.views) ≤ direct_places (shows k s.words) + 8 * dues (shows k s.words)
