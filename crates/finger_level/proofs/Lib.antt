@@ -1,0 +1,17 @@
+pub mod LevelPushes
+pub mod Values
+pub mod Records
+pub mod Found
+pub mod Builds
+pub mod Weighing
+pub mod Laying
+pub mod Suspending
+pub mod Families
+pub mod NodePuts
+pub mod Pushing
+pub mod Levels
+pub mod Rests
+pub mod Tops
+pub mod Funded
+pub mod Keys
+pub mod Keying

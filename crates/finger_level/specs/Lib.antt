@@ -1,0 +1,6 @@
+pub mod Few
+pub mod Level
+pub mod Reads
+pub mod Keyed
+pub mod Pushes
+pub mod Puts
