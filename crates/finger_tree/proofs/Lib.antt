@@ -1,0 +1,3 @@
+pub mod PushRecords
+pub mod PushReadiness
+pub mod PushBuilds

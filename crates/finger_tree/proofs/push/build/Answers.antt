@@ -1,0 +1,60 @@
+use Rattle.std.proofs.Common.{◌≡◌, ◌∙◌, ap, Some, arith}
+use Rattle.heap_store.specs.World.{recs}
+use Rattle.heap_store.specs.View.{Quiet}
+use Rattle.heap_store.proofs.Steps.{Quiet_trans}
+use Rattle.finger_tree.specs.Work.{suspended}
+use Rattle.finger_level.proofs.Found.{IsValueAt}
+use Rattle.finger_level.proofs.Found.{value_tree}
+use Rattle.heap_store.proofs.ValueLaws.{place_waits}
+use Rattle.heap_store.proofs.ReadLaws.{is_there}
+use Rattle.finger_tree.proofs.PushRecords.{value_up_at, tree_there, tree_sort}
+use Rattle.finger_tree.proofs.PushBuilds.{BuildFacts, build_facts, level_ask, push_built, value_done_not}
+use Rattle.finger_tree.proofs.push.build.Goals as goal
+use Rattle.finger_tree.proofs.push.build.Goals.{After-push_of-push, After-pushed_level-level}
+
+pub push_of-push-requires-clause-range : goal.push_of-push-requires-clause-range
+push_of-push-requires-clause-range g c = ((g.met.H.Heap.lawful c.args.h.now).world.each c.args.s.0 _ c.requires.rec).range
+
+here : (g : _) (c : After-push_of-push g) → recs (g.H.Heap.view c.args.h.now).seen c.args.s.0 ≡ Some (suspended c.push_of-push.result)
+here g c = c.requires.rec ∙ ap Some c.push_of-push.ensures
+
+pub value_place-requires : goal.value_place-requires
+value_place-requires g c = is_there (recs (g.H.Heap.view c.args.h.now).seen) c.push_of-push.result.tree.0 (tree_there (g.met.H.Heap.lawful c.args.h.now).world c.args.s.0 c.push_of-push.result (here g (goal.at.value_place-requires g c).After-push_of-push))
+
+pub pushed_level-level-requires : goal.pushed_level-level-requires
+pushed_level-level-requires g c =
+    let law1 = (g.met.H.Heap.lawful c.value_place.new.h).world in
+    let e = c.value_place.ensures.quiet.grows.records _ _ (here g (goal.at.pushed_level-level-requires g c).After-push_of-push) in
+    (value_tree law1 c.push_of-push.result.tree.0 c.in-Some.q.0 (tree_sort law1 c.args.s.0 c.push_of-push.result e) c.in-Some.ensures.place).there
+
+-- what was read shows the same
+quiet : (g : _) (c : After-pushed_level-level g) → Quiet (g.H.Heap.view c.args.h.now) (g.H.Heap.view c.pushed_level-level.new.h)
+quiet g c = Quiet_trans c.value_place.ensures.quiet c.pushed_level-level.ensures.quiet
+
+facts : (g : _) (c : After-pushed_level-level g) → BuildFacts (g.H.Heap.view c.pushed_level-level.new.h) c.args.run.now c.args.s c.push_of-push.result
+facts g c = build_facts (quiet g c) (g.met.H.Heap.lawful c.pushed_level-level.new.h).world c.requires.build c.push_of-push.result (c.requires.rec ∙ ap Some c.push_of-push.ensures)
+
+at : (g : _) (c : After-pushed_level-level g) → IsValueAt (g.H.Heap.view c.pushed_level-level.new.h).seen c.push_of-push.result.tree.0 c.in-Some.q.0
+at g c =
+    let law1 = (g.met.H.Heap.lawful c.value_place.new.h).world in
+    let e = c.value_place.ensures.quiet.grows.records _ _ (c.requires.rec ∙ ap Some c.push_of-push.ensures) in
+    value_up_at law1 c.pushed_level-level.ensures.quiet.grows c.push_of-push.result.tree.0 c.in-Some.q.0 (tree_there law1 c.args.s.0 c.push_of-push.result e) (value_tree law1 c.push_of-push.result.tree.0 c.in-Some.q.0 (tree_sort law1 c.args.s.0 c.push_of-push.result e) c.in-Some.ensures.place)
+
+pub put_level-place-requires : goal.put_level-place-requires
+put_level-place-requires g c =
+    let d = (goal.at.put_level-place-requires g c).After-pushed_level-level in
+    let f = facts g d in
+    let k = at g d in
+    let m = c.pushed_level-level.ensures.pushed in
+    let room = f.room c.in-Some.q.0 c.pushed_level-level.result k m in
+    level_ask (g.met.H.Heap.lawful c.pushed_level-level.new.h).world c.args.s c.in-Some.q.0 c.push_of-push.result c.pushed_level-level.result f.here k m f.s_low (f.value_low c.in-Some.q.0 k) f.newest f.held (omega (arith, room))
+
+pub unreachable-requires : goal.unreachable-requires
+unreachable-requires g c =
+    let f = build_facts c.value_place.ensures.quiet (g.met.H.Heap.lawful c.value_place.new.h).world c.requires.build c.push_of-push.result (here g (goal.at.unreachable-requires g c).After-push_of-push) in
+    value_done_not (g.met.H.Heap.lawful c.value_place.new.h).world c.push_of-push.result.tree.0 f.known (place_waits (g.H.Heap.view c.value_place.new.h).seen c.push_of-push.result.tree.0 (tree_there (g.met.H.Heap.lawful c.value_place.new.h).world c.args.s.0 c.push_of-push.result f.here) c.in-None.ensures.place)
+
+pub returns : goal.returns
+returns g c =
+    let d = (goal.at.returns g c).After-pushed_level-level in
+    push_built (quiet g d) (g.met.H.Heap.lawful c.pushed_level-level.new.h).world (g.met.H.Heap.lawful c.put_level-place.new.h).world c.args.s c.in-Some.q.0 c.push_of-push.result c.pushed_level-level.result c.put_level-place.result.0 (facts g d) (at g d) c.pushed_level-level.ensures.pushed c.put_level-place.ensures.put c.put_level-place.ensures.keys
