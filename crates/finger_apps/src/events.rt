@@ -1,0 +1,139 @@
+//! The operations of sequences that never force: `size`, and the pushes and looks at both ends, each in one stage.
+ghost use Rattle.std.specs.Prelude.{◌≡◌, ◌^◌, ◌<◌, ◌≤◌, true, Some};
+ghost use Rattle.lazy_rec.specs.declared.limits.TheConstants.{MOST_ITEMS};
+ghost use Rattle.heap_store.specs.World.{recs, holds};
+ghost use Rattle.heap_store.specs.Completion.{Made};
+ghost use Rattle.heap_store.specs.View.{Quiet};
+ghost use Rattle.heap_store.specs.Jobs.{IsJob, EventPrepared, IsEventBuildable, IsEventBuilt};
+ghost use Rattle.heap_store.specs.OneStage.{ends_at, is_end};
+ghost use Rattle.finger_level.specs.Reads.{is_tree_value};
+ghost use Rattle.finger_tree.specs.Work.{is_finger_work};
+ghost use Rattle.finger_apps.specs.Sequence.{is_end_op, pushes_at, looks_at, push_places, shown_at, IsReadyEvent, is_ready};
+
+use crate::sequence::end_item;
+use finger_level::{Family, Pushed, Side, Weight, places, pushed_level, put_level};
+use heap_store::{After, Cursor, EventJob, Heap, Prep, Run, Stage, Version};
+use lazy_rec::limits::MOST_ITEMS;
+use lazy_rec::{Item, Kind, Op, Rec, Ref, Reply};
+
+/// What an operation at an end of a sequence needs: nothing. A push takes the places of a leaf and of the level that it makes,
+/// five at most; other operations take none. No operation has cells to pass one by one, so the cursor stays.
+pub fn prepare_event<H: Heap>(h: &mut H, job: &EventJob, cursor: &mut Cursor) -> Prep
+    requires job { IsJob (H.view h.old).seen job.now }
+    requires kind { job.now.base.kind ≡ Kind.Seq }
+    requires op { is_end_op job.now.op ≡ true }
+    requires stage { job.now.stage ≡ Stage.Start }
+    ensures quiet { Quiet (H.view h.old) (H.view h.new) }
+    ensures cursor { cursor.new ≡ cursor.old }
+    ensures answer { EventPrepared is_finger_work IsReadyEvent (H.view h.new).seen job.now result }
+    ensures ready { is_ready result ≡ true }
+{
+    match job.op {
+        Op::Pushl => Prep::Ready {
+            nodes: places_of_push(h, Side::Left, &job.base),
+        },
+        Op::Pushr => Prep::Ready {
+            nodes: places_of_push(h, Side::Right, &job.base),
+        },
+        _ => Prep::Ready { nodes: 0 },
+    }
+}
+
+/// Does an operation at an end of a sequence. What replies `Empty` or `TooLong`, `size`, `first` and `last` end at the base's
+/// root and spend nothing. A push spends at most its due: where a full digit overflows, the suspended push of the node shows as
+/// many units as the new size has binary digits.
+pub fn build_event<H: Heap>(h: &mut H, job: &EventJob, cursor: &Cursor, run: &mut Run) -> After
+    requires kind { job.now.base.kind ≡ Kind.Seq }
+    requires op { is_end_op job.now.op ≡ true }
+    requires stage { job.now.stage ≡ Stage.Start }
+    requires build { IsEventBuildable IsReadyEvent (H.view h.old) job.now run.old }
+    ensures built { IsEventBuilt (H.view h.old) (H.view h.new) job.now run.old run.new result }
+    ensures base { run.old.next ≡ run.old.end → ends_at result job.now.base.root.0 ≡ true }
+    ensures ends { is_end result ≡ true }
+{
+    match job.op {
+        Op::Pushl => push(h, Side::Left, job, run),
+        Op::Pushr => push(h, Side::Right, job, run),
+        Op::First => look(h, Side::Left, job, run),
+        Op::Last => look(h, Side::Right, job, run),
+        _ => same(&job.base, Reply::Number(u64::from(job.base.size))),
+    }
+}
+
+/// How many places a push takes. They don't depend on the item.
+fn places_of_push<H: Heap>(h: &mut H, side: Side, base: &Version) -> u32
+    requires value { holds (recs (H.view h.old).seen) base.now.root.0 is_tree_value ≡ true }
+    requires size { base.now.size ≤ MOST_ITEMS }
+    ensures quiet { Quiet (H.view h.old) (H.view h.new) }
+    ensures places { (shown : Made) → shown_at (H.view h.new).seen base.now.root.0 ≡ Some shown → result ≡ push_places side base.now.size shown }
+    ensures most { result ≤ 5 }
+{
+    if base.size == MOST_ITEMS {
+        return 0;
+    }
+    let level = pushed_level(h, side, Pushed::One(Ref(0)), base.root);
+    places(level) + 1
+}
+
+/// An event that makes nothing ends at its base's root.
+fn same(base: &Version, reply: Reply) -> After
+    ensures { result ≡ After.End base.now.root base.now.size reply }
+{
+    After::End {
+        root: base.root,
+        size: base.size,
+        reply,
+    }
+}
+
+/// The argument of an event, a number of 64 bits.
+#[inline]
+fn argument(job: &EventJob) -> u64
+    ensures same { result ≡ job.now.arg }
+    ensures small { job.now.arg < 2 ^ 64 }
+{
+    job.arg
+}
+
+/// Pushes an item onto an end.
+fn push<H: Heap>(h: &mut H, side: Side, job: &EventJob, run: &mut Run) -> After
+    requires kind { job.now.base.kind ≡ Kind.Seq }
+    requires op { pushes_at job.now.op side ≡ true }
+    requires stage { job.now.stage ≡ Stage.Start }
+    requires build { IsEventBuildable IsReadyEvent (H.view h.old) job.now run.old }
+    ensures built { IsEventBuilt (H.view h.old) (H.view h.new) job.now run.old run.new result }
+    ensures base { run.old.next ≡ run.old.end → ends_at result job.now.base.root.0 ≡ true }
+    ensures ends { is_end result ≡ true }
+{
+    if job.base.size == MOST_ITEMS {
+        return same(&job.base, Reply::TooLong);
+    }
+    let item = argument(job);
+    let leaf = h.put(run, Rec::Leaf { item: Item(item) });
+    let level = pushed_level(h, side, Pushed::One(leaf), job.base.root);
+    let whole = Weight {
+        size: job.base.size + 1,
+        key: Item(0),
+    };
+    let root = put_level(h, level, whole, Family::First, false, run);
+    After::End {
+        root,
+        size: job.base.size + 1,
+        reply: Reply::Ok,
+    }
+}
+
+/// Replies with the item at an end.
+fn look<H: Heap>(h: &mut H, side: Side, job: &EventJob, run: &mut Run) -> After
+    requires kind { job.now.base.kind ≡ Kind.Seq }
+    requires op { looks_at job.now.op side ≡ true }
+    requires build { IsEventBuildable IsReadyEvent (H.view h.old) job.now run.old }
+    ensures built { IsEventBuilt (H.view h.old) (H.view h.new) job.now run.old run.new result }
+    ensures base { run.old.next ≡ run.old.end → ends_at result job.now.base.root.0 ≡ true }
+    ensures ends { is_end result ≡ true }
+{
+    match end_item(h, side, job.base.root) {
+        Some(item) => same(&job.base, Reply::Number(item)),
+        None => same(&job.base, Reply::Empty),
+    }
+}
