@@ -87,6 +87,6 @@ pub enum ScriptFault {
     #[error("line {line}: {reason}")]
     Line { line: u32, reason: Reason },
     /// There was no memory for the script.
-    #[error("out of memory")]
+    #[error("{}", lazy_rec::NoMemory)]
     NoMemory,
 }

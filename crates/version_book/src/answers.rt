@@ -28,7 +28,7 @@ pub enum Refuse {
     NamesFull(NamesFull),
     #[error(transparent)]
     StoreFull(Full),
-    #[error("out of memory")]
+    #[error("{}", lazy_rec::NoMemory)]
     NoMemory,
 }
 
