@@ -21,3 +21,4 @@ pub mod IdlePasses
 pub mod InOrder
 pub mod Charges
 pub mod Books
+pub mod Extending
