@@ -210,4 +210,6 @@ pub fn run_solo<S: Source, K: Sink>(
 }
 
 #[cfg(test)]
+mod random_tests;
+#[cfg(test)]
 mod tests;

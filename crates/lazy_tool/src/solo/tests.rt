@@ -411,6 +411,27 @@ fn doubled_streams(rt: HostRuntime) -> Result<(), Fail> {
     Ok(())
 }
 
+// A doubled stream has more cells than the store has places: the head of its reversal finds the store full, and the stream itself
+// is still there.
+#[test]
+fn reversal_of_a_doubled_stream(rt: HostRuntime) -> Result<(), Fail> {
+    let mut text = String::from_str(rt.alloc(), "lazy 1\nnew stream\ncons 1 1\n")?;
+    for k in 2..33 {
+        text.push_str(format!(in rt.alloc(); "append {k} {k}\n")?.as_str())?;
+    }
+    text.push_str("reverse 32\nhead 34\nhead 32\n")?;
+    let words = words_of(rt.alloc(), &["plain", "--nodes", "100000"])?;
+    let mut source = SureSource::new(text.as_bytes().to_vec(rt.alloc())?);
+    let mut sink = MemSink::new(vec![in rt.alloc(); 0; 1_024]?, 1_024, Vec::new(rt.alloc()));
+    let outcome = run_solo(rt.alloc(), words.as_slice(), &mut source, &mut sink);
+    assert_eq!(rt; outcome.status, 1);
+    let (_, last) = str::from_utf8(sink.held())?
+        .split_once("\n33 toolong\n34 ok\n35 full ")
+        .ok_or("no full row")?;
+    assert!(rt; last.contains("\n36 1\ntotals forced "));
+    Ok(())
+}
+
 // A queue that is filled event by event, and emptied again until nothing is left for the last one. A rotation with n items
 // in front has n + 1 suspensions and 2n + 1 steps; they are made at n = 0, 1, 3, .., 32767 and, while it is emptied, 34463.
 #[test]
