@@ -48,6 +48,7 @@ pub mod RoomLaws
 pub mod PlainBudget
 pub mod PlainSteps
 pub mod PlainReads
+pub mod PlainCounts
 pub mod PlainRows
 pub mod OpenLaws
 pub mod PlainOpen

@@ -1,5 +1,5 @@
 -- What storing a word of a row does to the dues and the events' own places: they rise where an event begins, by its own.
-use Rattle.std.proofs.Common.{◌≡◌, ℕ, zero, suc, ◌<◌, ◌≤◌, ◌+◌, refl, sym, ap, ◌∙◌, arith, subst, eqb, ⊎_elim, Bool, true, false, cond, not, ◌&&◌, ◌||◌, Option, Some, None, List, [], ◌∷◌, length}
+use Rattle.std.proofs.Common.{◌≡◌, ℕ, zero, suc, ◌<◌, ◌≤◌, ◌+◌, refl, sym, ap, ◌∙◌, arith, subst, eqb, ⊎_elim, Bool, true, false, cond, not, ◌&&◌, ◌||◌, Option, Some, None, List, [], ◌∷◌, length, take}
 use Rattle.std.specs.Prelude.{option_and_then, slice_set, slice_index_or}
 use Rattle.std.specs.List.{list_all}
 use Rattle.std.proofs.lemmas.Bool.{true≢false, cases_lt, and_parts, eqb-true}
@@ -166,6 +166,15 @@ rows_changed f g new i (suc k) (x ∷ rows) l h =
     let first : f i x ≡ g i x = subst (λ z. f z x ≡ g z x) z (h 0 (λ n. absurd (omega (arith, n)))) in
     let rest = rows_changed f g new (suc i) k rows (omega arith) (λ m ne. one_on f g i m (slice_index_or rows m []) (h (suc m) (λ n. ne (omega (arith, n))))) in
     omega (arith, rest, first, ap (λ z. f z (slice_index_or rows k [])) e, ap (λ z. g z new) e)
+
+-- one row more
+pub rows_more : (f : ℕ → List ℕ → ℕ) → ((j : ℕ) → f j [] ≡ 0) → (i k : ℕ) (rows : List (List ℕ)) → sum_rows f i (take (suc k) rows) ≡ sum_rows f i (take k rows) + f (i + k) (slice_index_or rows k [])
+rows_more f none i zero [] = omega (arith, none (i + 0))
+rows_more f none i (suc k) [] = omega (arith, none (i + suc k))
+rows_more f none i zero (x ∷ rows) = let e : i + 0 ≡ i = omega arith in omega (arith, ap (λ z. f z x) e)
+rows_more f none i (suc k) (x ∷ rows) =
+    let e : suc i + k ≡ i + suc k = omega arith in
+    omega (arith, rows_more f none (suc i) k rows, ap (λ z. f z (slice_index_or rows k [])) e)
 
 -- a sum that is no greater row by row, where what is past the rows adds nothing
 rows_le : (f g : ℕ → List ℕ → ℕ) (i : ℕ) (xs ys : List (List ℕ)) → ((j : ℕ) → g j [] ≡ 0) → ((m : ℕ) → f (i + m) (slice_index_or xs m []) ≤ g (i + m) (slice_index_or ys m [])) → sum_rows f i xs ≤ sum_rows g i ys

@@ -29,6 +29,7 @@ pub mod Causes
 pub mod RowCalls
 pub mod Shared
 pub mod Plain
+pub mod Counts
 pub mod Props
 pub mod Slots
 pub mod Opened

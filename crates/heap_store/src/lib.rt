@@ -5,6 +5,7 @@
 
 pub mod cells;
 pub mod claims;
+pub mod counts;
 pub mod heap;
 pub mod jobs;
 pub mod nodes;
@@ -15,6 +16,7 @@ pub mod versions;
 
 pub use cells::{Cell, first_cell, list_cell, value_of, value_place};
 pub use claims::{Claim, Full, HeldClaim, NamesFull, OpenRow};
+pub use counts::Counts;
 pub use heap::{Claims, Heap, Rows};
 pub use jobs::{After, Built, Cursor, EventJob, Jobs, Prep, Stage};
 pub use nodes::Node;

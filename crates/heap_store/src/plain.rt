@@ -4,11 +4,13 @@ ghost use Rattle.lazy_rec.specs.declared.limits.TheConstants.{MOST_EVENTS, MOST_
 ghost use Rattle.heap_store.specs.World.{fixed_places};
 ghost use Rattle.heap_store.specs.Hand.{without_claim, is_later, mark_newest, all_distinct, claim_places, rows_after_end};
 ghost use Rattle.heap_store.specs.Plain.{IsPlain, plain_view, five_records, rows_after_word, begun_count};
-ghost use Rattle.heap_store.specs.Props.{IsPlain-prop, IsLawfulView-prop};
+ghost use Rattle.heap_store.specs.Counts.{AreCounted};
+ghost use Rattle.heap_store.specs.Props.{IsPlain-prop, AreCounted-prop, IsLawfulView-prop};
 ghost use Rattle.heap_store.specs.View.{IsLawfulView};
 ghost use Rattle.heap_store.specs.RowCalls.{begins_row};
 
 use crate::claims::{Claim, Full, HeldClaim, NamesFull, OpenRow};
+use crate::counts::Counts;
 use crate::heap::{Claims, Heap, Rows};
 use crate::nodes::Node;
 use crate::run::Run;
@@ -28,12 +30,14 @@ pub struct PlainHeap {
     row_capacity: u32,
     refused: u64,
     last: Full,
+    counts: Counts,
     ghost node_room: { nodes.room ≡ fixed_places + capacity },
     ghost claim_room: { fixed_places + capacity ≤ vec_capacity claims },
     ghost row_room: { row_capacity ≤ vec_capacity rows },
     ghost open_room: { row_capacity ≤ vec_capacity open_rows },
     ghost crowd: { vec_len open_rows ≤ begun_count rows.items },
     ghost plain: { IsPlain capacity row_capacity nodes.shown (reverse claims.items) rows.items } by { IsPlain-prop capacity row_capacity nodes.shown (reverse claims.items) rows.items },
+    ghost counted: { AreCounted nodes.shown counts } by { AreCounted-prop nodes.shown counts },
     ghost law: { IsLawfulView (plain_view nodes.shown (reverse claims.items) rows.items open_rows.items capacity row_capacity refused last) } by { IsLawfulView-prop (plain_view nodes.shown (reverse claims.items) rows.items open_rows.items capacity row_capacity refused last) },
 }
 
@@ -71,6 +75,12 @@ impl PlainHeap {
                 drawn: 0,
                 wanted: 0,
             },
+            counts: Counts {
+                forced: 0,
+                steps: 0,
+                given_up: 0,
+                nodes: 0,
+            },
         })
     }
 }
@@ -79,6 +89,7 @@ impl PlainHeap {
     ghost use Rattle.std.specs.Prelude.{◌≡◌, ◌<◌, ◌≤◌, length};
     ghost use Rattle.heap_store.specs.World.{node_at};
     ghost use Rattle.heap_store.specs.Rows.{words_at};
+    ghost use Rattle.heap_store.specs.Counts.{counts_of};
     ghost use Rattle.heap_store.specs.Opened.{view_of};
 
     /// How many rows the store has.
@@ -102,6 +113,13 @@ impl PlainHeap {
         ensures { result ≡ node_at (view_of self.now).seen place.0 }
     {
         self.nodes.get(place)
+    }
+
+    /// What the work on the store came to until now. It is counted as the work is done, so no place is looked at.
+    pub fn counts(&self) -> Counts
+        ensures { result ≡ counts_of (view_of self.now).seen }
+    {
+        self.counts
     }
 }
 
@@ -226,6 +244,7 @@ impl Heap for PlainHeap {
     fn put(&mut self, run: &mut Run, rec: Rec) -> Ref {
         let place = run.step();
         self.nodes.publish(place, rec);
+        self.counts.nodes += 1;
         mark_newest(&mut self.claims, is_later(&rec));
         place
     }
@@ -281,6 +300,8 @@ impl Claims for PlainHeap {
                 given_up,
             },
         );
+        self.counts.forced += 1;
+        self.counts.steps += u64::from(steps);
         release(&mut self.claims, s);
     }
 
@@ -288,12 +309,10 @@ impl Claims for PlainHeap {
         let SuspState::Claimed { given_up } = self.nodes.state(s) else {
             unreachable!()
         };
-        self.nodes.set_state(
-            s,
-            SuspState::Unforced {
-                given_up: given_up.saturating_add(1),
-            },
-        );
+        let raised = given_up.saturating_add(1);
+        self.nodes
+            .set_state(s, SuspState::Unforced { given_up: raised });
+        self.counts.given_up += u64::from(raised - given_up);
         release(&mut self.claims, s);
     }
 }

@@ -16,14 +16,13 @@ use Rattle.heap_store.specs.Legal.{IsLegal}
 use Rattle.heap_store.specs.Growth.{begun_of}
 use Rattle.heap_store.specs.Budget.{of_row, due_at, dues, sum_rows}
 use Rattle.heap_store.proofs.HistoryLaws.{version_same}
-use Rattle.heap_store.proofs.RowBudget.{EndedStay, row_same, due_other, based_row, new_row}
+use Rattle.heap_store.proofs.RowBudget.{EndedStay, row_same, due_other, based_row, new_row, rows_more}
 use Rattle.version_book.specs.declared.answers.Entry.{Entry}
 use Rattle.version_book.specs.declared.answers.Refuse.{Refuse}
 use Rattle.version_book.specs.Pass.{Pass}
 use Rattle.version_book.specs.RowSteps.{ended_row, skipped_row}
 use Rattle.version_book.specs.Calls.{Called, Ended, IsFound, ending_told}
 use Rattle.version_book.specs.Solo.{AreBases, Ran}
-use Rattle.version_book.proofs.Sums.{rows_more}
 
 -- ---- sums over rows
 

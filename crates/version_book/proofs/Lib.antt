@@ -10,7 +10,6 @@ pub mod Skips
 pub mod DoneCount
 pub mod JobLaws
 pub mod Works
-pub mod Sums
 pub mod Rooms
 pub mod EventJobs
 pub mod Outcomes

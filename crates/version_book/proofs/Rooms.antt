@@ -18,7 +18,7 @@ use Rattle.heap_store.specs.Legal.{IsLegal}
 use Rattle.heap_store.specs.Budget.{of_based, of_event, of_row, sum_rows, room_of}
 use Rattle.lazy_rec.proofs.HistoryLaws.{kind_is}
 use Rattle.heap_store.proofs.HistoryLaws.{version_well}
-use Rattle.version_book.proofs.Sums.{rows_more}
+use Rattle.heap_store.proofs.RowBudget.{rows_more}
 
 module _ (w : World) (legal : IsLegal w) (events : List Event) (same : events_of (row_at w) ≡ event_of events) where
   abbrev named : Events

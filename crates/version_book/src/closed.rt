@@ -7,13 +7,13 @@ ghost use Rattle.version_book.specs.Closed.{IsPaid, IsWhole, row_told, node_told
 ghost use Rattle.version_book.specs.Totals.{totals_of};
 
 use crate::rows::{self, Row};
-use crate::totals::{Totals, count_totals};
-use heap_store::{PlainHeap, Rows};
+use crate::totals::Totals;
+use heap_store::PlainHeap;
 use lazy_rec::{Rec, Ref, SuspState};
 use std::marker::Model;
 
 /// A closed book. It is seen as its world: the nodes by their places, and the words of the rows by their names. The world is
-/// lawful, its rows are a legal history, and each row has ended. Its totals are counted when it is closed.
+/// lawful, its rows are a legal history, and each row has ended. Its totals are those that the store counted.
 #[derive(Drop)]
 pub struct Closed {
     heap: PlainHeap,
@@ -39,9 +39,14 @@ impl Closed {
         requires charged { charged ≡ dues (view_of heap).seen }
         ensures { result ≡ (view_of heap).seen }
     {
-        let mut heap = heap;
-        let (_, drawn) = heap.load_counts();
-        let totals = count_totals(&heap, drawn, charged);
+        let counts = heap.counts();
+        let totals = Totals {
+            forced: counts.forced,
+            steps: counts.steps,
+            given_up: counts.given_up,
+            dues: charged,
+            nodes: counts.nodes,
+        };
         Closed { heap, totals }
     }
 

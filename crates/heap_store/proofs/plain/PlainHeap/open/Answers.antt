@@ -1,6 +1,7 @@
 use Rattle.std.proofs.Common.{arith, reverse, refl, ap}
 use Rattle.heap_store.specs.Plain.{IsPlain}
 use Rattle.heap_store.specs.Slots.{PlacesView}
+use Rattle.heap_store.proofs.PlainCounts.{opened_counted}
 use Rattle.heap_store.proofs.PlainOpen.{opened_plain}
 use Rattle.heap_store.proofs.PlainWorlds.{plain_lawful}
 use Rattle.heap_store.proofs.plain.PlainHeap.open.Goals as goal
@@ -20,6 +21,9 @@ invariant_of-result-clause-node_room c = omega (arith, ap (λ (v : PlacesView). 
 
 pub invariant_of-result-clause-plain : goal.invariant_of-result-clause-plain
 invariant_of-result-clause-plain c = now_plain c
+
+pub invariant_of-result-clause-counted : goal.invariant_of-result-clause-counted
+invariant_of-result-clause-counted c = rw c.with_fixed_records.ensures opened_counted
 
 pub invariant_of-result-clause-law : goal.invariant_of-result-clause-law
 invariant_of-result-clause-law c = plain_lawful c.args.nodes c.args.rows _ _ _ (now_plain c) _ _ _ (rw c.in-Ok-with_capacity-3.ensures.items refl) (λ some. absurd (omega (arith, some)))

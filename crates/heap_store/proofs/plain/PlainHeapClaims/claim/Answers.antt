@@ -13,8 +13,9 @@ use Rattle.heap_store.specs.Budget.{is_funded}
 use Rattle.heap_store.specs.Plain.{IsPlain, plain_world, is_claimed_node}
 use Rattle.heap_store.proofs.Steps.{Quiet_refl}
 use Rattle.heap_store.specs.Slots.{at_place}
-use Rattle.heap_store.proofs.PlainReads.{with_state, there, shown_read, state_node, passed_at}
+use Rattle.heap_store.proofs.PlainReads.{with_state, there, within_read, shown_read, state_node, passed_at}
 use Rattle.heap_store.proofs.PlainWorlds.{plain_lawful}
+use Rattle.heap_store.proofs.PlainCounts.{won_counted}
 use Rattle.heap_store.proofs.PlainSteps.{won_plain, won_view, room_left}
 use Rattle.heap_store.proofs.plain.PlainHeapClaims.claim.Goals as goal
 use Rattle.heap_store.proofs.plain.PlainHeapClaims.claim.Goals.{In-Unforced, After-add}
@@ -71,6 +72,14 @@ invariant_of-self-clause-claim_room c = omega (arith, c.add.ensures.room, c.args
 
 pub invariant_of-self-clause-plain : goal.invariant_of-self-clause-plain
 invariant_of-self-clause-plain c = now_plain c
+
+pub invariant_of-self-clause-counted : goal.invariant_of-self-clause-counted
+invariant_of-self-clause-counted c =
+    let h = c.args.self.now in
+    let i = (goal.at.invariant_of-self-clause-counted c).In-Unforced in
+    let set : c.set_state.new.self ≡ with_state h.nodes c.args.s.0 (node i).0 (Claimed c.in-Unforced.given_up) = c.set_state.ensures (record { rec = (node i).0; state = Unforced c.in-Unforced.given_up }) (node i).1 in
+    let within = within_read h.capacity h.row_capacity h.nodes.shown h.rows.items c.args.s.0 is_pending c.requires.pending in
+    rw set (won_counted h.nodes.shown h.counts c.args.s.0 within h.counted (node i).0 c.in-Unforced.given_up (node i).1)
 
 pub invariant_of-self-clause-law : goal.invariant_of-self-clause-law
 invariant_of-self-clause-law c = let h = c.args.self.now in plain_lawful h.capacity h.row_capacity _ _ h.rows.items (now_plain c) h.open_rows.items h.refused h.last h.law.open_in h.law.refused

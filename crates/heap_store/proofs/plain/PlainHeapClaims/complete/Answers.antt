@@ -6,7 +6,8 @@ use Rattle.heap_store.specs.World.{node_at}
 use Rattle.heap_store.specs.Plain.{IsPlain, plain_world}
 use Rattle.heap_store.specs.Slots.{at_place}
 use Rattle.heap_store.proofs.PlainReads.{with_state, claimed_is, held_claimed, held_is, held_shown}
-use Rattle.heap_store.proofs.PlainWorlds.{plain_lawful}
+use Rattle.heap_store.proofs.PlainWorlds.{drawn_there, plain_lawful}
+use Rattle.heap_store.proofs.PlainCounts.{completed_counted, counts_small}
 use Rattle.heap_store.proofs.PlainSteps.{completed_plain, completed_view}
 use Rattle.heap_store.proofs.plain.PlainHeapClaims.complete.Goals as goal
 use Rattle.heap_store.proofs.plain.PlainHeapClaims.complete.Goals.{In-Claimed, After-release}
@@ -43,6 +44,20 @@ invariant_of-self-clause-claim_room c = omega (arith, c.release.ensures.room, c.
 
 pub invariant_of-self-clause-plain : goal.invariant_of-self-clause-plain
 invariant_of-self-clause-plain c = now_plain c
+
+pub invariant_of-self-clause-counted : goal.invariant_of-self-clause-counted
+invariant_of-self-clause-counted c =
+    let h = c.args.self.now in
+    let i = (goal.at.invariant_of-self-clause-counted c).In-Claimed in
+    let set : c.set_state.new.self ≡ with_state h.nodes c.args.s.0 (node i).0 (Done c.args.place c.args.steps c.in-Claimed.given_up) = c.set_state.ensures (record { rec = (node i).0; state = Claimed c.in-Claimed.given_up }) (node i).1 in
+    let within = drawn_there h.capacity h.row_capacity h.nodes.shown h.rows.items c.args.s.0 _ (node i).2 in
+    rw (set, c.from.ensures) (completed_counted h.nodes.shown h.counts c.args.s.0 within h.counted (node i).0 c.in-Claimed.given_up c.args.place c.args.steps (node i).1)
+
+pub overflow_add-self : goal.overflow_add-self
+overflow_add-self c = let h = c.args.self.now in omega (arith, (counts_small h.capacity h.row_capacity h.nodes.shown (reverse h.claims.items) h.rows.items h.counts h.plain h.counted).forced)
+
+pub overflow_add-self-2 : goal.overflow_add-self-2
+overflow_add-self-2 c = let h = c.args.self.now in omega (arith, c.requires.small, c.from.ensures, (counts_small h.capacity h.row_capacity h.nodes.shown (reverse h.claims.items) h.rows.items h.counts h.plain h.counted).steps)
 
 pub invariant_of-self-clause-law : goal.invariant_of-self-clause-law
 invariant_of-self-clause-law c = let h = c.args.self.now in plain_lawful h.capacity h.row_capacity _ _ h.rows.items (now_plain c) h.open_rows.items h.refused h.last h.law.open_in h.law.refused

@@ -3,6 +3,7 @@ use Rattle.heap_store.specs.World.{fixed_places}
 use Rattle.heap_store.specs.Plain.{IsPlain, open_names}
 use Rattle.heap_store.proofs.PlainWorlds.{fixed_drawn, plain_lawful}
 use Rattle.heap_store.proofs.OpenLaws.{marked_open}
+use Rattle.heap_store.proofs.PlainCounts.{counted_more}
 use Rattle.heap_store.proofs.PlainSteps.{reserved_plain, reserved_view}
 use Rattle.heap_store.proofs.plain.PlainHeapHeap.reserve.Goals as goal
 use Rattle.heap_store.proofs.plain.PlainHeapHeap.reserve.Goals.{Else-k-self, After-draw}
@@ -39,6 +40,9 @@ invariant_of-self-2-clause-node_room c = rw c.draw.ensures c.args.self.now.node_
 
 pub invariant_of-self-2-clause-plain : goal.invariant_of-self-2-clause-plain
 invariant_of-self-2-clause-plain c = now_plain c
+
+pub invariant_of-self-2-clause-counted : goal.invariant_of-self-2-clause-counted
+invariant_of-self-2-clause-counted c = let h = c.args.self.now in rw c.draw.ensures (counted_more h.nodes.shown h.counts c.args.k h.counted)
 
 pub invariant_of-self-2-clause-law : goal.invariant_of-self-2-clause-law
 invariant_of-self-2-clause-law c = let h = c.args.self.now in plain_lawful h.capacity h.row_capacity _ (reverse h.claims.items) h.rows.items (now_plain c) h.open_rows.items h.refused h.last h.law.open_in h.law.refused
