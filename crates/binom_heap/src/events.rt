@@ -21,7 +21,9 @@ use heap_store::{After, Cursor, EventJob, Heap, Prep, Run, Stage, Version, value
 use lazy_rec::limits::MOST_ITEMS;
 use lazy_rec::{Item, Kind, Op, Rec, Ref, Reply};
 
-/// How many places the first stage of an operation takes, at the sizes of the base and of the other.
+/// How many places the first stage of an operation takes, at the sizes of the base and of the other. A call, since what is
+/// inlined here would be computed ahead of the loop over an event's stages, for the events of every kind.
+#[inline(never)]
 fn start_places(op: Op, n: u32, m: u32) -> u32
     requires base { n ≤ most_items }
     requires other { m ≤ most_items }
@@ -126,6 +128,8 @@ fn meld<H: Heap>(h: &mut H, job: &EventJob, run: &mut Run) -> After
 }
 
 /// The first stage of what looks at the trees: a top that owes nothing pays for the list. Of an empty heap it replies so.
+/// Inlined, so that no event's job has to stand in memory.
+#[inline(always)]
 fn pay<H: Heap>(h: &mut H, job: &EventJob, run: &mut Run) -> After
     requires kind { job.now.base.kind ≡ Kind.Heap }
     requires op { looks_at_trees job.now.op ≡ true }

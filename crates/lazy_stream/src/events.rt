@@ -52,7 +52,9 @@ pub fn build_event<H: Heap>(h: &mut H, job: &EventJob, cursor: &Cursor, run: &mu
     }
 }
 
-/// Whether an operation looks at the first cell of a stream.
+/// Whether an operation looks at the first cell of a stream. A call, since what is inlined here would be computed ahead of the
+/// loop over an event's stages, for the events of every kind.
+#[inline(never)]
 fn looks(op: Op, size: u32) -> bool
     ensures { result ≡ looks_at_first op size }
 {
@@ -62,7 +64,8 @@ fn looks(op: Op, size: u32) -> bool
     }
 }
 
-/// How many places an operation takes.
+/// How many places an operation takes. A call, as `looks` is.
+#[inline(never)]
 fn places(op: Op, size: u32, other: u32) -> u32
     requires size { size ≤ 2147483647 }
     requires other { other ≤ 2147483647 }
