@@ -23,10 +23,9 @@ pub fn prepare_event<H: Heap>(h: &mut H, job: &EventJob, cursor: &mut Cursor) ->
     ensures answer { EventPrepared is_any_bank_rotation IsReadyEvent (H.view h.new).seen job.now result }
 {
     let top = read_top(h, job.base.root);
-    let ready = Prep::Ready {
-        nodes: places(job.op, &top),
-    };
-    if !looks(job.op, &top) {
+    let wants = plan(job.op, &top);
+    let ready = Prep::Ready { nodes: wants.nodes };
+    if !wants.looks {
         return ready;
     }
     match value_place(h, top.front) {
@@ -53,41 +52,36 @@ pub fn build_event<H: Heap>(h: &mut H, job: &EventJob, cursor: &Cursor, run: &mu
     }
 }
 
-/// Whether an operation looks at the first cell of the front.
-fn looks(op: Op, top: &Top) -> bool
-    ensures { result ≡ looks_at_front op top.now.lenf }
-{
-    match op {
-        Op::Head | Op::Tail => top.lenf > 0,
-        _ => false,
-    }
+/// What an operation takes, and whether it looks at the first cell of the front.
+#[derive(Clone, Copy)]
+struct Wants {
+    nodes: u32,
+    looks: bool,
 }
 
-/// How many places an operation takes.
-fn places(op: Op, top: &Top) -> u32
+/// The places that an operation takes, and whether it looks at the front.
+fn plan(op: Op, top: &Top) -> Wants
     requires { top.now.lenf + top.now.lenr ≤ MOST_ITEMS }
-    ensures { result ≡ places_for op top.now.lenf top.now.lenr }
+    ensures nodes { result.nodes ≡ places_for op top.now.lenf top.now.lenr }
+    ensures looks { result.looks ≡ looks_at_front op top.now.lenf }
 {
     match op {
-        Op::Snoc => {
-            if top.lenf + top.lenr == MOST_ITEMS {
-                0
-            } else if top.lenr < top.lenf {
-                2
-            } else {
-                3
-            }
-        }
-        Op::Tail => {
-            if top.lenf == 0 {
-                0
-            } else if top.lenr < top.lenf {
-                1
-            } else {
-                2
-            }
-        }
-        _ => 0,
+        Op::Snoc if top.lenf + top.lenr < MOST_ITEMS => Wants {
+            nodes: if top.lenr < top.lenf { 2 } else { 3 },
+            looks: false,
+        },
+        Op::Tail if top.lenf > 0 => Wants {
+            nodes: if top.lenr < top.lenf { 1 } else { 2 },
+            looks: true,
+        },
+        Op::Head if top.lenf > 0 => Wants {
+            nodes: 0,
+            looks: true,
+        },
+        _ => Wants {
+            nodes: 0,
+            looks: false,
+        },
     }
 }
 

@@ -24,10 +24,9 @@ pub fn prepare_event<H: Heap>(h: &mut H, job: &EventJob, cursor: &mut Cursor) ->
     ensures need { needs_schedule (H.view h.new).seen job.now.base.root.0 result ≡ true }
 {
     let top = read_top(h, job.base.root);
-    let ready = Prep::Ready {
-        nodes: places(job.op, &top),
-    };
-    let Some(place) = looked_at(job.op, &top) else {
+    let wants = plan(job.op, &top);
+    let ready = Prep::Ready { nodes: wants.nodes };
+    let Some(place) = wants.looked_at else {
         return ready;
     };
     match value_place(h, place) {
@@ -54,44 +53,36 @@ pub fn build_event<H: Heap>(h: &mut H, job: &EventJob, cursor: &Cursor, run: &mu
     }
 }
 
-/// The place that an operation looks at, if it looks at any.
-fn looked_at(op: Op, top: &Top) -> Option<Ref>
-    requires { top.now.lenf + top.now.lenr ≤ MOST_ITEMS }
-    ensures { result ≡ looks_at op top.now }
-{
-    match op {
-        Op::Snoc if top.lenf + top.lenr < MOST_ITEMS => Some(top.sched),
-        Op::Tail if top.lenf > 0 => Some(top.sched),
-        Op::Head if top.lenf > 0 => Some(top.front),
-        _ => None,
-    }
+/// What an operation takes and looks at.
+#[derive(Clone, Copy)]
+struct Wants {
+    nodes: u32,
+    looked_at: Option<Ref>,
 }
 
-/// How many places an operation takes.
-fn places(op: Op, top: &Top) -> u32
+/// The places that an operation takes, and the place that it looks at, if it looks at any.
+fn plan(op: Op, top: &Top) -> Wants
     requires { top.now.lenf + top.now.lenr ≤ MOST_ITEMS }
-    ensures { result ≡ places_for op top.now.lenf top.now.lenr }
+    ensures nodes { result.nodes ≡ places_for op top.now.lenf top.now.lenr }
+    ensures looks { result.looked_at ≡ looks_at op top.now }
 {
     match op {
-        Op::Snoc => {
-            if top.lenf + top.lenr == MOST_ITEMS {
-                0
-            } else if top.lenr < top.lenf {
-                2
-            } else {
-                3
-            }
-        }
-        Op::Tail => {
-            if top.lenf == 0 {
-                0
-            } else if top.lenr < top.lenf {
-                1
-            } else {
-                2
-            }
-        }
-        _ => 0,
+        Op::Snoc if top.lenf + top.lenr < MOST_ITEMS => Wants {
+            nodes: if top.lenr < top.lenf { 2 } else { 3 },
+            looked_at: Some(top.sched),
+        },
+        Op::Tail if top.lenf > 0 => Wants {
+            nodes: if top.lenr < top.lenf { 1 } else { 2 },
+            looked_at: Some(top.sched),
+        },
+        Op::Head if top.lenf > 0 => Wants {
+            nodes: 0,
+            looked_at: Some(top.front),
+        },
+        _ => Wants {
+            nodes: 0,
+            looked_at: None,
+        },
     }
 }
 

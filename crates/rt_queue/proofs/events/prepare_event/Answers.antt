@@ -18,21 +18,18 @@ top g c = job_top (g.met.H.Heap.lawful c.args.h.now).world c.args.job.now c.requ
 here : (g : _) (c : After-read_top-top g) → recs (g.H.Heap.view c.read_top-top.new.h).seen c.args.job.now.base.root.0 ≡ Some (top_record c.read_top-top.result)
 here g c = c.read_top-top.ensures.quiet.grows.records _ _ c.read_top-top.ensures.top
 
-pub places-requires : goal.places-requires
-places-requires g c = let k = top g (goal.at.places-requires g c).After-read_top-top in omega (arith, k.most)
-
-pub looked_at-requires : goal.looked_at-requires
-looked_at-requires g c = let k = top g (goal.at.looked_at-requires g c).After-read_top-top in omega (arith, k.most)
+pub plan-wants-requires : goal.plan-wants-requires
+plan-wants-requires g c = let k = top g (goal.at.plan-wants-requires g c).After-read_top-top in omega (arith, k.most)
 
 pub returns-in_default-clause-answer : goal.returns-in_default-clause-answer
 returns-in_default-clause-answer g c =
     let d = goal.at.returns-in_default-clause-answer g c in
-    ready_event c.args.job.now c.requires.kind c.read_top-top.result (here g d.After-read_top-top) c.requires.job.has c.places.result c.places.ensures
-    (rw (← c.looked_at.ensures) (is_known_none (g.H.Heap.view c.read_top-top.new.h).seen c.looked_at.result c.in_default.not-Some))
+    ready_event c.args.job.now c.requires.kind c.read_top-top.result (here g d.After-read_top-top) c.requires.job.has c.plan-wants.result.nodes c.plan-wants.ensures.nodes
+    (rw (← c.plan-wants.ensures.looks) (is_known_none (g.H.Heap.view c.read_top-top.new.h).seen c.plan-wants.result.looked_at c.in_default.not-Some))
 
 -- the place that is looked at
 looks : (g : _) (c : In-Some g) → looks_at c.args.job.now.op c.read_top-top.result ≡ Some c.in-Some.place
-looks g c = sym c.looked_at.ensures ∙ c.in-Some.is
+looks g c = sym c.plan-wants.ensures.looks ∙ c.in-Some.is
 
 pub value_place-requires : goal.value_place-requires
 value_place-requires g c =
@@ -47,7 +44,7 @@ returns-in-Some-value_place-clause-answer g c =
     let d = goal.at.returns-in-Some-value_place-clause-answer g c in
     let law = (g.met.H.Heap.lawful c.value_place.new.h).world in
     let e = c.value_place.ensures.quiet.grows.records _ _ (here g d.After-read_top-top) in
-    ready_event c.args.job.now c.requires.kind c.read_top-top.result e c.requires.job.has c.places.result c.places.ensures
+    ready_event c.args.job.now c.requires.kind c.read_top-top.result e c.requires.job.has c.plan-wants.result.nodes c.plan-wants.ensures.nodes
     (is_known_some (g.H.Heap.view c.value_place.new.h).seen _ c.in-Some.place (looks g d.In-Some) (value_place_is law c.in-Some.place.0 c.in-Some-value_place.field-0.0 c.in-Some-value_place.ensures.place).known)
 
 pub returns-in-None-clause-quiet : goal.returns-in-None-clause-quiet
