@@ -20,7 +20,7 @@ use Rattle.version_book.proofs.Setting.{unanswered_well, unanswered_rooted, set_
 use Rattle.version_book.proofs.Puts.{unsaid_trans, stored_on, stored_row, stored_other, on_trans, mine_only, first_stored}
 
 -- the row of an event whose first three words are stored
-started_is : (w : World) (name w0 w1 caller : ℕ) (e : Event) (begun : Bool) → word_at w name 0 ≡ w0 → word_at w name 1 ≡ w1 → word_at w name 2 ≡ e.arg → word_at w name 5 ≡ 0 → IsBasesWord w1 e.base e.other → IsFirstWord w0 caller e.op begun
+pub started_is : (w : World) (name w0 w1 caller : ℕ) (e : Event) (begun : Bool) → word_at w name 0 ≡ w0 → word_at w name 1 ≡ w1 → word_at w name 2 ≡ e.arg → word_at w name 5 ≡ 0 → IsBasesWord w1 e.base e.other → IsFirstWord w0 caller e.op begun
     → row_at w name ≡ Some (started_row caller e begun)
 started_is w name w0 w1 caller e begun a b c z bases first =
     let op : op_of_word (word_at w name 0) ≡ Some e.op = rw a first.op_is in
@@ -54,7 +54,7 @@ ready own drawn next bases p1 p2 = record {
 }
 
 -- a row of an event that may begin, where it begins, is well
-started_well : (rs : Records) (v : View) (caller name : ℕ) (e : Event) (begun : Bool) → caller < 64 → IsNextEvent v name e → (begun ≡ true → MayBegin v name e) → RowWell rs (row_at v.seen) name (started_row caller e begun)
+pub started_well : (rs : Records) (v : View) (caller name : ℕ) (e : Event) (begun : Bool) → caller < 64 → IsNextEvent v name e → (begun ≡ true → MayBegin v name e) → RowWell rs (row_at v.seen) name (started_row caller e begun)
 started_well rs v caller name e begun small next may =
     unanswered_well rs (row_at v.seen) name (started_row caller e begun) refl (started_in_range caller e begun (lt-ltb caller 64 small) next.argument) next.trim next.smaller
     (known begun (λ z. (may z).answered)) (kind begun (λ z. (may z).kinds))

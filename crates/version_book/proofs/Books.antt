@@ -11,7 +11,7 @@ use Rattle.lazy_rec.specs.Kinds.{bases, belongs, same_kind, is_split}
 use Rattle.lazy_rec.specs.History.{is_second, event_name, event_of, kind_of, new_kind, is_smaller, has_smaller_bases, IsScript}
 use Rattle.dues.specs.Rooms.{room}
 use Rattle.heap_store.specs.declared.plain.PlainHeap.{PlainHeap}
-use Rattle.heap_store.specs.Rows.{Row, Ending, full, is_full, row_at, is_ended, is_ended_at, events_of}
+use Rattle.heap_store.specs.Rows.{Row, Ending, full, is_full, row_at, is_ended_at, events_of}
 use Rattle.heap_store.specs.View.{View, About, IsLawfulView}
 use Rattle.heap_store.specs.Plain.{no_words}
 use Rattle.heap_store.specs.Opened.{view_of, opened_view}
@@ -29,23 +29,15 @@ use Rattle.lazy_rec.proofs.HistoryLaws.{smaller-lt, smaller-pos, base-low, stand
 use Rattle.heap_store.proofs.ShowLaws.{one_value}
 use Rattle.kind_table.specs.Kinds.{is_built, AreBuilt}
 use Rattle.version_book.specs.Closed.{IsBook, IsBounded, IsRefusal, IsWhole}
-use Rattle.version_book.specs.Pass.{Pass, pass_of}
+use Rattle.version_book.specs.Pass.{Pass}
 use Rattle.version_book.proofs.Rooms.{room_fits}
 use Rattle.version_book.proofs.InOrder.{all_up}
-use Rattle.version_book.proofs.Charges.{dues_to, all_dues}
+use Rattle.version_book.proofs.Charges.{all_dues}
 use Rattle.version_book.specs.RowSteps.{IsCaller}
 use Rattle.version_book.specs.Calls.{IsIdle}
-use Rattle.version_book.specs.Solo.{IsSolo, ComesNext, Ran}
+use Rattle.version_book.specs.Solo.{IsSolo, ComesNext, Ran, IsRun, RowsAreRun, AreRun, dues_to}
 
 -- ---- what holds after so many events
-
--- the row of a name after its event was run
-pub record IsRun (nodes : ℕ) (w : World) (events : List Event) (j : ℕ) (r : Row) : Type 0 where
-  pub event : event_of events j ≡ Some r.event
-  pub caller : r.caller ≡ 0
-  pub ended : is_ended r.ending ≡ true
-  pub numbers : (drawn wanted : ℕ) → r.ending ≡ full drawn wanted → IsRefusal w nodes drawn wanted
-  pub cause : HasCause w (direct_at w j) r.ending
 
 -- the numbers of a full row stay right as the world grows
 numbers_grow : {a b : World} → IsLegal a → IsLegal b → Grows a b → {capacity drawn wanted : ℕ} → IsRefusal a capacity drawn wanted → IsRefusal b capacity drawn wanted
@@ -56,7 +48,7 @@ numbers_grow {a} {b} legal legal' g n = record {
 }
 
 -- it stays so as the world grows
-run_grows : {a b : World} {nodes : ℕ} {events : List Event} {j : ℕ} {r : Row} → IsLegal a → IsLegal b → Grows a b → row_at a j ≡ Some r → row_at b j ≡ Some r → IsRun nodes a events j r → IsRun nodes b events j r
+pub run_grows : {a b : World} {nodes : ℕ} {events : List Event} {j : ℕ} {r : Row} → IsLegal a → IsLegal b → Grows a b → row_at a j ≡ Some r → row_at b j ≡ Some r → IsRun nodes a events j r → IsRun nodes b events j r
 run_grows {a} {b} {nodes} {events} {j} {r} legal legal' g was now h = record {
   event = h.event;
   caller = h.caller;
@@ -65,21 +57,20 @@ run_grows {a} {b} {nodes} {events} {j} {r} legal legal' g was now h = record {
   cause = cause_kept legal legal' g j (ap (option_and_then begun_of) (was ∙ sym now)) r.ending h.cause;
 }
 
-pub record AreRun (nodes : ℕ) (events : List Event) (i : ℕ) (p : Pass) : Type 0 where
-  pub solo : IsSolo p
-  pub lawful : IsLawfulView p.view
-  pub named : p.view.named ≡ i
-  pub capacity : p.view.about.capacity ≡ nodes
-  pub rows : p.view.about.rows ≡ length events
-  pub rows_are : (j : ℕ) → 1 ≤ j → j ≤ i → (r : Row) × (row_at p.view.seen j ≡ Some r) × IsRun nodes p.view.seen events j r
+-- an ended row stays, so all rows do
+pub rows_grow : {a b : World} {nodes i : ℕ} {events : List Event} → IsLegal a → IsLegal b → Grows a b → RowsAreRun nodes a events i → RowsAreRun nodes b events i
+rows_grow legal legal' g rows j low high =
+    let t = rows j low high in
+    let now = g.ended j t.0 t.1 t.2.ended in
+    (t.0, now, run_grows legal legal' g t.1 now t.2)
 
-pub none-run : (nodes : ℕ) (events : List Event) → IsLawfulView (opened_view nodes (length events)) → AreRun nodes events 0 (pass_of (opened_view nodes (length events)) 0)
-none-run nodes events law = record {
-  solo = record { alone = refl; plan = refl; caller = refl };
+pub none-run : (events : List Event) (p : Pass) → IsSolo p → IsLawfulView p.view → p.view.named ≡ 0 → p.view.about.rows ≡ length events → AreRun p.view.about.capacity events 0 p
+none-run events p solo law fresh rows = record {
+  solo = solo;
   lawful = law;
-  named = refl;
+  named = fresh;
   capacity = refl;
-  rows = refl;
+  rows = rows;
   rows_are = λ j low high. absurd (omega (arith, low, high));
 }
 

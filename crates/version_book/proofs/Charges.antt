@@ -1,5 +1,5 @@
 -- What events were charged: each by its row, and all that were run so far.
-use Rattle.std.proofs.Common.{◌≡◌, ℕ, zero, suc, ◌+◌, ◌≤◌, Bool, true, false, Some, List, [], length, take, refl, sym, ap, ◌∙◌, arith}
+use Rattle.std.proofs.Common.{◌≡◌, ℕ, zero, suc, ◌+◌, ◌≤◌, Bool, true, false, Some, List, [], length, refl, sym, ap, ◌∙◌, arith}
 use Rattle.std.specs.Prelude.{slice_index_or, option_and_then, Result}
 use Rattle.std.proofs.lemmas.List.{take_all}
 use Rattle.lazy_rec.specs.declared.events.Kind.{Kind}
@@ -22,13 +22,9 @@ use Rattle.version_book.specs.declared.answers.Refuse.{Refuse}
 use Rattle.version_book.specs.Pass.{Pass}
 use Rattle.version_book.specs.RowSteps.{ended_row, skipped_row}
 use Rattle.version_book.specs.Calls.{Called, Ended, IsFound, ending_told}
-use Rattle.version_book.specs.Solo.{AreBases, Ran}
+use Rattle.version_book.specs.Solo.{AreBases, Ran, dues_to}
 
 -- ---- sums over rows
-
--- the dues of the first rows
-abbrev pub dues_to : World → ℕ → ℕ
-dues_to w k = sum_rows (λ i words. of_row due w (row_of i words)) 1 (take k w.rows)
 
 pub all_dues : (w : World) (n : ℕ) → length w.rows ≡ n → dues_to w n ≡ dues w
 all_dues w n e = ap (λ rows. sum_rows (λ i words. of_row due w (row_of i words)) 1 rows) (take_all n w.rows (omega (arith, e)))

@@ -1,13 +1,13 @@
 -- For callers of the library: how what a call on one version asks follows from what the calls before it told, on a store that no
 -- other works on.
-use Rattle.std.proofs.Common.{◌≡◌, ℕ, ◌+◌, ◌<◌, refl, sym, ap, ◌∙◌, subst, arith, Bool, true, false, Option, Some, None, List, ⊎_elim}
+use Rattle.std.proofs.Common.{◌≡◌, ℕ, ◌+◌, ◌<◌, refl, sym, ap, ◌∙◌, arith, true, false, Some, None, ⊎_elim}
 use Rattle.std.specs.Prelude.{option_and_then}
-use Rattle.std.proofs.lemmas.Bool.{eq-eqb, or_left, cases_lt}
+use Rattle.std.proofs.lemmas.Bool.{eq-eqb, cases_lt}
 use Rattle.lazy_rec.specs.declared.events.Op.{Op}
-use Rattle.lazy_rec.specs.Kinds.{uses_base, uses_other, uses_argument, same_kind, kind_number}
+use Rattle.lazy_rec.specs.Kinds.{uses_base, uses_other, uses_argument, kind_number}
 use Rattle.lazy_rec.specs.History.{event_name}
 use Rattle.heap_store.specs.declared.versions.Version.{Version}
-use Rattle.heap_store.specs.Rows.{Row, row_at, version_of, version_at}
+use Rattle.heap_store.specs.Rows.{Row, row_at, version_of}
 use Rattle.heap_store.specs.Growth.{Grows}
 use Rattle.heap_store.specs.View.{IsLawfulView}
 use Rattle.heap_store.specs.RowCalls.{NameDrawn}

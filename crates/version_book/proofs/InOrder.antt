@@ -92,7 +92,7 @@ lost_base rs rows legal n ended named none = go (rows (event_name n)) refl
     go (Some r) e = from r r.ending e refl
 
 -- a row whose end word is 0 hasn't ended
-not_ended_yet : (w : World) (i : ℕ) → word_at w i 5 ≡ 0 → is_ended_at (row_at w) i ≡ true → ⊥
+pub not_ended_yet : (w : World) (i : ℕ) → word_at w i 5 ≡ 0 → is_ended_at (row_at w) i ≡ true → ⊥
 not_ended_yet w i none h = true≢false (sym h ∙ zero_unended i (words_at w i) none)
 
 -- what is looked up and not found is given up
@@ -288,7 +288,7 @@ module _ (p q : Pass) (name : ℕ) (e : Event) (solo : IsSolo p) (next : ComesNe
       cause = subst (λ n. HasCause r.view.seen (direct_at r.view.seen n) row.ending) t.next c.cause;
     }
 
-ending_ended : (name : ℕ) (answer : Result Entry Refuse) → is_named name answer ≡ true → is_ended (ending_told answer) ≡ true
+pub ending_ended : (name : ℕ) (answer : Result Entry Refuse) → is_named name answer ≡ true → is_ended (ending_told answer) ≡ true
 ending_ended name (Ok entry) h = refl
 ending_ended name (Err (refusals.StoreFull refusal)) h = refl
 ending_ended name (Err refusals.NoMemory) h = refl

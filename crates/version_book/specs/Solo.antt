@@ -1,15 +1,18 @@
 -- Events run in order by one caller, on a store that no other works on.
-use Rattle.std.specs.Prelude.{◌≡◌, ◌≢◌, ℕ, ◌+◌, ◌^◌, ◌<◌, ltb, leb, ◌&&◌, false, true, Some, None}
+use Rattle.std.specs.Prelude.{◌≡◌, ◌≢◌, ℕ, ◌+◌, ◌^◌, ◌<◌, ◌≤◌, ltb, leb, ◌&&◌, false, true, Some, None, List, length, take}
 use Rattle.std.specs.List.{list_all}
 use Rattle.lazy_rec.specs.declared.events.Event.{Event}
 use Rattle.lazy_rec.specs.Tests.{is_some_and}
 use Rattle.lazy_rec.specs.Kinds.{bases, is_trim, uses_base, uses_other}
-use Rattle.lazy_rec.specs.History.{event_name, has_smaller_bases, is_of_its_kind, kind_made, kind_of, names_seconds_well}
+use Rattle.lazy_rec.specs.Due.{due}
+use Rattle.lazy_rec.specs.History.{event_name, event_of, has_smaller_bases, is_of_its_kind, kind_made, kind_of, names_seconds_well}
 use Rattle.heap_store.specs.declared.versions.Version.{Version}
-use Rattle.heap_store.specs.Rows.{Row, full, row_at, is_ended, is_ended_at, events_of}
+use Rattle.heap_store.specs.World.{World}
+use Rattle.heap_store.specs.Rows.{Row, full, row_of, row_at, is_ended, is_ended_at, events_of}
 use Rattle.heap_store.specs.Growth.{Grows}
-use Rattle.heap_store.specs.Budget.{direct_at}
+use Rattle.heap_store.specs.Budget.{direct_at, of_row, sum_rows}
 use Rattle.heap_store.specs.Causes.{HasCause}
+use Rattle.heap_store.specs.View.{IsLawfulView}
 use Rattle.kind_table.specs.Kinds.{is_built}
 use Rattle.version_book.specs.Pass.{Pass}
 use Rattle.version_book.specs.Closed.{IsRefusal}
@@ -59,3 +62,30 @@ pub record Ran (old new : Pass) (e : Event) : Type 0 where
   pub ended : is_ended row.ending ≡ true
   pub numbers : (drawn wanted : ℕ) → row.ending ≡ full drawn wanted → IsRefusal new.view.seen old.view.about.capacity drawn wanted
   pub cause : HasCause new.view.seen (direct_at new.view.seen (old.view.named + 1)) row.ending
+
+-- ---- what holds after so many events
+
+-- the row of a name after its event was run
+pub record IsRun (nodes : ℕ) (w : World) (events : List Event) (j : ℕ) (r : Row) : Type 0 where
+  pub event : event_of events j ≡ Some r.event
+  pub caller : r.caller ≡ 0
+  pub ended : is_ended r.ending ≡ true
+  pub numbers : (drawn wanted : ℕ) → r.ending ≡ full drawn wanted → IsRefusal w nodes drawn wanted
+  pub cause : HasCause w (direct_at w j) r.ending
+
+-- the rows of the first names
+abbrev pub RowsAreRun : ℕ → World → List Event → ℕ → Type 0
+RowsAreRun nodes w events i = (j : ℕ) → 1 ≤ j → j ≤ i → (r : Row) × (row_at w j ≡ Some r) × IsRun nodes w events j r
+
+-- so many events were run in order, on a store of so many places that no other works on
+pub record AreRun (nodes : ℕ) (events : List Event) (i : ℕ) (p : Pass) : Type 0 where
+  pub solo : IsSolo p
+  pub lawful : IsLawfulView p.view
+  pub named : p.view.named ≡ i
+  pub capacity : p.view.about.capacity ≡ nodes
+  pub rows : p.view.about.rows ≡ length events
+  pub rows_are : RowsAreRun nodes p.view.seen events i
+
+-- the dues of the first rows
+abbrev pub dues_to : World → ℕ → ℕ
+dues_to w k = sum_rows (λ i words. of_row due w (row_of i words)) 1 (take k w.rows)

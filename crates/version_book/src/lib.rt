@@ -38,7 +38,8 @@
 //! | `planned` | where the store has a plan, the event is the plan's | a store without a plan has none |
 //!
 //! `extend` asks besides that the operation never forces (`dues::never_forces`), and `call` that no other works on the store.
-//! `solo_book` runs a whole list of events by these calls; `plain_model::is_script` tells whether a list may be run.
+//! `solo_book` runs a whole list of events by these calls, and `run_events` does so over any store that one caller has for itself;
+//! `plain_model::is_script` tells whether a list may be run.
 //!
 //! # What a call costs
 //!
@@ -81,7 +82,8 @@ pub mod words;
 
 pub use answers::{Entry, Look, Refuse, Tally, Ticket};
 pub use closed::Closed;
+pub use lookups::look;
 pub use pass::BookPass;
 pub use rows::{Ended, Row};
-pub use solo::solo_book;
+pub use solo::{run_events, solo_book};
 pub use totals::Totals;

@@ -10,7 +10,7 @@ use heap_store::{Heap, Rows};
 use lazy_rec::{event_name, is_second};
 
 /// The version with a number, as the words of its event's row show it, the end word first.
-pub(crate) fn look<R: Rows>(heap: &mut R, version: u32) -> Look
+pub fn look<R: Rows>(heap: &mut R, version: u32) -> Look
     requires low { 1 ≤ event_name version }
     requires high { event_name version ≤ (R.view heap.old).about.rows }
     ensures quiet { Quiet (R.view heap.old) (R.view heap.new) }

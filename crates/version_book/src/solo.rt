@@ -1,5 +1,5 @@
 //! Events in order, on one thread.
-ghost use Rattle.std.specs.Prelude.{◌≡◌, ◌≤◌, ◌<◌, ◌^◌, IfOk, IfSome, IfNone};
+ghost use Rattle.std.specs.Prelude.{◌≡◌, ◌≤◌, ◌<◌, ◌^◌, length, IfOk, IfSome, IfNone};
 ghost use Rattle.lazy_rec.specs.declared.limits.TheConstants.{MOST_NODES};
 ghost use Rattle.lazy_rec.specs.Due.{due};
 ghost use Rattle.lazy_rec.specs.History.{IsScript};
@@ -8,19 +8,19 @@ ghost use Rattle.heap_store.specs.View.{IsLawfulView};
 ghost use Rattle.kind_table.specs.Kinds.{AreBuilt};
 ghost use Rattle.version_book.specs.Closed.{IsBook};
 ghost use Rattle.version_book.specs.RowSteps.{HasLostBase};
-ghost use Rattle.version_book.specs.Solo.{IsSolo, UsesEnded, AreBases, ComesNext, Ran};
+ghost use Rattle.version_book.specs.Solo.{IsSolo, UsesEnded, AreBases, ComesNext, Ran, AreRun, dues_to};
 
 use crate::answers::Look;
 use crate::closed::Closed;
 use crate::pass::BookPass;
 use dues::due;
 use force_engine::Stack;
-use heap_store::{PlainHeap, Version};
+use heap_store::{PlainHeap, Rows, Version};
 use lazy_rec::{Event, NoMemory, Op};
 use std::alloc::Global;
 
 /// The versions that an event uses, its base twice where it has no other; none where one of them is given up.
-fn bases(pass: &mut BookPass<PlainHeap>, event: &Event) -> Option<(Version, Version)>
+fn bases<R: Rows>(pass: &mut BookPass<R>, event: &Event) -> Option<(Version, Version)>
     requires solo { IsSolo pass.old }
     requires uses { UsesEnded pass.old event.now }
     ensures same { pass.new ≡ pass.old }
@@ -56,7 +56,7 @@ fn charge(op: Op, base: &Version, other: &Version) -> u64
 
 /// Runs an event under the next name, from the versions that it names, and answers what it was charged.
 #[inline(always)]
-fn run_event(pass: &mut BookPass<PlainHeap>, event: &Event) -> u64
+fn run_event<R: Rows>(pass: &mut BookPass<R>, event: &Event) -> u64
     requires solo { IsSolo pass.old }
     requires next { ComesNext pass.old event.now }
     ensures ran { Ran pass.old pass.new event.now }
@@ -83,6 +83,26 @@ fn run_event(pass: &mut BookPass<PlainHeap>, event: &Event) -> u64
     }
 }
 
+/// Runs the events in order, each from the versions that it names, on a store of which no name is drawn and on which no other
+/// works. It answers what they were charged.
+#[inline(always)]
+pub fn run_events<R: Rows>(pass: &mut BookPass<R>, events: &[Event]) -> u64
+    requires solo { IsSolo pass.old }
+    requires lawful { IsLawfulView pass.old.view }
+    requires fresh { pass.old.view.named ≡ 0 }
+    requires rows { pass.old.view.about.rows ≡ length events.now }
+    requires script { IsScript events.now }
+    requires built { AreBuilt events.now }
+    ensures run { AreRun pass.old.view.about.capacity events.now (length events.now) pass.new }
+    ensures charged { result ≡ dues_to pass.new.view.seen (length events.now) }
+{
+    let mut charged = 0;
+    for event in events {
+        charged += run_event(pass, event);
+    }
+    charged
+}
+
 /// Runs the events in order over a store of so many places, each from the versions that it names.
 #[inline(never)]
 pub fn solo_book(alloc: Global, nodes: u32, events: &[Event]) -> Result<Closed, NoMemory>
@@ -94,9 +114,6 @@ pub fn solo_book(alloc: Global, nodes: u32, events: &[Event]) -> Result<Closed, 
     let heap = PlainHeap::open(alloc, nodes, events.len() as u32)?;
     let stack = Stack::open(alloc)?;
     let mut pass = BookPass::new(heap, stack, 0);
-    let mut charged = 0;
-    for event in events {
-        charged += run_event(&mut pass, event);
-    }
+    let charged = run_events(&mut pass, events);
     Ok(Closed::of(pass.into_heap(), charged))
 }

@@ -7,10 +7,10 @@ use Rattle.version_book.proofs.InOrder.{HasTicket, ticket, out_of_names, solo_st
 use Rattle.version_book.proofs.solo.run_event.Goals as goal
 
 pub unreachable-requires : goal.unreachable-requires
-unreachable-requires c = out_of_names c.args.pass.now c.draw.new.self.view c.in_default.field-0 c.requires.solo c.requires.next c.in_default.ensures.err
+unreachable-requires g c = out_of_names c.args.pass.now c.draw.new.self.view c.in_default.field-0 c.requires.solo c.requires.next c.in_default.ensures.err
 
 pub begin_new-requires : goal.begin_new-requires
-begin_new-requires c =
+begin_new-requires g c =
     let p = c.args.pass.now in
     let q = c.draw.new.self in
     let t : HasTicket p q c.in-Ok.ticket.name = ticket c.requires.solo c.in-Ok.ensures.ok c.draw.ensures.same in
@@ -21,7 +21,7 @@ begin_new-requires c =
     }
 
 pub returns-in-New : goal.returns-in-New
-returns-in-New c =
+returns-in-New g c =
     let p = c.args.pass.now in
     let q = c.draw.new.self in
     let e = c.args.event.now in
@@ -37,7 +37,7 @@ returns-in-New c =
     }
 
 pub bases-requires : goal.bases-requires
-bases-requires c =
+bases-requires g c =
     let p = c.args.pass.now in
     let q = c.draw.new.self in
     let e = c.args.event.now in
@@ -48,7 +48,7 @@ bases-requires c =
     }
 
 pub call-requires : goal.call-requires
-call-requires c =
+call-requires g c =
     let p = c.args.pass.now in
     let q = c.draw.new.self in
     let e = c.args.event.now in
@@ -60,7 +60,7 @@ call-requires c =
     }
 
 pub skip-requires : goal.skip-requires
-skip-requires c =
+skip-requires g c =
     let p = c.args.pass.now in
     let q = c.draw.new.self in
     let e = c.args.event.now in
@@ -73,7 +73,7 @@ skip-requires c =
     }
 
 pub returns-in-Some : goal.returns-in-Some
-returns-in-Some c =
+returns-in-Some g c =
     let p = c.args.pass.now in
     let q = c.draw.new.self in
     let r = c.call.new.self in
@@ -91,7 +91,7 @@ returns-in-Some c =
     }
 
 pub returns-in-None : goal.returns-in-None
-returns-in-None c =
+returns-in-None g c =
     let p = c.args.pass.now in
     let q = c.draw.new.self in
     let r = c.skip.new.self in

@@ -1,5 +1,4 @@
-use Rattle.std.proofs.Common.{◌≡◌, ◌+◌, ◌∙◌, arith, length, subst, sym, ap}
-use Rattle.std.proofs.lemmas.Option.{slice_get-get_or}
+use Rattle.std.proofs.Common.{◌≡◌, ℕ, ◌∙◌, length, refl, subst, sym, ap}
 use Rattle.heap_store.specs.View.{View, IsLawfulView}
 use Rattle.heap_store.specs.World.{World}
 use Rattle.heap_store.specs.Opened.{opened_view}
@@ -7,9 +6,10 @@ use Rattle.version_book.specs.Pass.{Pass, pass_of}
 use Rattle.version_book.specs.RowSteps.{IsCaller}
 use Rattle.version_book.specs.Calls.{IsIdle}
 use Rattle.version_book.specs.Closed.{IsBook}
-use Rattle.version_book.proofs.Books.{AreRun, opened_idle, opened_caller, none-run, comes-next, one-more, book-of, whole-of, charged-of}
-use Rattle.version_book.proofs.Charges.{none_charged, one_charged}
+use Rattle.version_book.specs.Solo.{IsSolo, AreRun}
+use Rattle.version_book.proofs.Books.{opened_idle, opened_caller, book-of, whole-of, charged-of}
 use Rattle.version_book.proofs.solo.solo_book.Goals as goal
+use Rattle.version_book.proofs.solo.solo_book.Goals.{After-new-pass, After-into_heap}
 
 pub new-pass-requires : goal.new-pass-requires
 new-pass-requires c = record {
@@ -18,46 +18,38 @@ new-pass-requires c = record {
   stack = c.in_ok-stack.ensures;
 }
 
-pub loop-event-init : goal.loop-event-init
-loop-event-init c =
-    let at : c.new-pass.result ≡ pass_of (opened_view c.args.nodes (length c.args.events.now)) 0 = c.new-pass.ensures ∙ ap (λ (v : View). pass_of v 0) c.in_ok-heap.ensures in
+-- the pass over the store that was just opened
+fresh : (c : After-new-pass) → c.new-pass.result ≡ pass_of (opened_view c.args.nodes (length c.args.events.now)) 0
+fresh c = c.new-pass.ensures ∙ ap (λ (v : View). pass_of v 0) c.in_ok-heap.ensures
+
+pub run_events-charged-requires : goal.run_events-charged-requires
+run_events-charged-requires c =
+    let k = (goal.at.run_events-charged-requires c).After-new-pass in
+    let at = sym (fresh k) in
+    let law = subst IsLawfulView c.in_ok-heap.ensures c.in_ok-heap.heap.law in
     record {
-      run = subst (λ (p : Pass). AreRun c.args.nodes c.args.events.now 0 p) (sym at) (none-run c.args.nodes c.args.events.now (subst IsLawfulView c.in_ok-heap.ensures c.in_ok-heap.heap.law));
-      charged = none_charged c.new-pass.result.view.seen;
-      few = omega arith;
+      solo = subst IsSolo at (record { alone = refl; plan = refl; caller = refl });
+      lawful = subst (λ (p : Pass). IsLawfulView p.view) at law;
+      fresh = subst (λ (p : Pass). p.view.named ≡ 0) at refl;
+      rows = subst (λ (p : Pass). p.view.about.rows ≡ length c.args.events.now) at refl;
+      script = c.requires.script;
+      built = c.requires.built;
     }
 
-pub run_event-charged-requires-clause-solo : goal.run_event-charged-requires-clause-solo
-run_event-charged-requires-clause-solo c = c.loop-event.invariant.run.solo
-
-pub run_event-charged-requires-clause-next : goal.run_event-charged-requires-clause-next
-run_event-charged-requires-clause-next c =
-    comes-next c.args.nodes c.args.events.now c.requires.script c.requires.built c.loop-event.event-index c.loop-event.pass c.loop-event.invariant.run _
-    (slice_get-get_or c.args.events.now c.loop-event.event-index _ c.loop-event-test.true) c.loop-event-test.true
-
-pub overflow_add-charged : goal.overflow_add-charged
-overflow_add-charged c = omega (arith, c.loop-event.invariant.few, c.run_event-charged.ensures.small, c.requires.script.few, c.loop-event-test.true)
-
-pub loop-event-preserved : goal.loop-event-preserved
-loop-event-preserved c =
-    let i = c.loop-event.event-index in
-    let p = c.loop-event.pass in
-    let k = c.loop-event.invariant in
-    let ran = c.run_event-charged.ensures.ran in
-    record {
-      run = one-more c.args.nodes c.args.events.now c.requires.script c.requires.built i p k.run c.run_event-charged.new.pass c.run_event-charged.ensures.lawful _ (i + 1) (omega arith) (slice_get-get_or c.args.events.now i _ c.loop-event-test.true) ran;
-      charged = one_charged p c.run_event-charged.new.pass _ i c.loop-event.charged c.run_event-charged.result k.run.lawful.legal c.run_event-charged.ensures.lawful.legal ran k.run.named k.charged c.run_event-charged.ensures.charged;
-      few = omega (arith, k.few, c.run_event-charged.ensures.small);
-    }
+-- all events were run, on a store of so many places
+run : (c : After-into_heap) → AreRun c.args.nodes c.args.events.now (length c.args.events.now) c.run_events-charged.new.pass
+run c =
+    let k : c.new-pass.result.view.about.capacity ≡ c.args.nodes = ap (λ (p : Pass). p.view.about.capacity) (c.new-pass.ensures ∙ ap (λ (v : View). pass_of v 0) c.in_ok-heap.ensures) in
+    subst (λ (n : ℕ). AreRun n c.args.events.now (length c.args.events.now) c.run_events-charged.new.pass) k c.run_events-charged.ensures.run
 
 pub of-requires : goal.of-requires
 of-requires c =
-    let last : c.loop-event.event-index ≡ length c.args.events.now = omega (arith, c.loop-event-test.false, c.loop-event.auto.event-index-end) in
+    let k = (goal.at.of-requires c).After-into_heap in
     record {
-      whole = whole-of c.args.nodes c.args.events.now c.into_heap.result c.loop-event.event-index c.loop-event.pass c.into_heap.ensures.heap c.into_heap.ensures.idle c.loop-event.invariant.run last;
-      charged = charged-of c.args.nodes c.args.events.now c.into_heap.result c.loop-event.event-index c.loop-event.pass c.into_heap.ensures.heap c.into_heap.ensures.idle c.loop-event.invariant.run last c.loop-event.charged c.loop-event.invariant.charged;
+      whole = whole-of c.args.nodes c.args.events.now c.into_heap.result (length c.args.events.now) c.run_events-charged.new.pass c.into_heap.ensures.heap c.into_heap.ensures.idle (run k) refl;
+      charged = charged-of c.args.nodes c.args.events.now c.into_heap.result (length c.args.events.now) c.run_events-charged.new.pass c.into_heap.ensures.heap c.into_heap.ensures.idle (run k) refl c.run_events-charged.result c.run_events-charged.ensures.charged;
     }
 
 pub returns : goal.returns
 returns c = subst (λ (w : World). IsBook w c.args.nodes c.args.events.now) (sym c.of.ensures)
-    (book-of c.args.nodes c.args.events.now c.into_heap.result c.loop-event.event-index c.loop-event.pass c.into_heap.ensures.heap c.into_heap.ensures.idle c.loop-event.invariant.run (omega (arith, c.loop-event-test.false, c.loop-event.auto.event-index-end)))
+    (book-of c.args.nodes c.args.events.now c.into_heap.result (length c.args.events.now) c.run_events-charged.new.pass c.into_heap.ensures.heap c.into_heap.ensures.idle (run (goal.at.returns c).After-into_heap) refl)
