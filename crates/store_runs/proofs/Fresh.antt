@@ -1,12 +1,14 @@
 -- Passes that have done nothing yet, and passes that may be closed.
-use Rattle.std.proofs.Common.{◌≡◌, ℕ, zero, suc, ◌<◌, ◌⊎◌, inl, inr, List, [], ◌∷◌, ◌++◌, refl, sym, Some, None}
-use Rattle.std.specs.Prelude.{map, slice_get}
+use Rattle.std.proofs.Common.{◌≡◌, ℕ, ◌+◌, ◌<◌, List, [], ◌∷◌, ◌++◌, length, map, refl, sym, ap, ◌∙◌, Some, ⊎_elim}
 use Rattle.std.proofs.lemmas.Bool.{true≢false}
 use Rattle.heap_store.specs.View.{View}
 use Rattle.word_store.specs.Opened.{opened_view}
 use Rattle.word_store.specs.Joined.{MayClose}
+use Rattle.version_book.specs.Pass.{Pass, pass_of}
 use Rattle.version_book.specs.RowSteps.{IsCaller}
 use Rattle.version_book.specs.Calls.{IsIdle}
+use Rattle.store_runs.specs.Crews.{AreFresh}
+use Rattle.store_runs.proofs.Handed.{got_push}
 
 pub fresh_idle : (nodes rows callers c : ℕ) → IsIdle (opened_view nodes rows callers c)
 fresh_idle nodes rows callers c = record { claims = refl; open_rows = refl; reserved = refl; vain = refl; unused = λ i j held. absurd (true≢false (sym held)) }
@@ -17,9 +19,20 @@ fresh_caller nodes rows callers c small = record { small = small; own = λ d e. 
 pub idle_closes : (v : View) → IsIdle v → MayClose v.hand
 idle_closes v i = record { claims = i.claims; reserved = i.reserved; rows = i.open_rows }
 
--- what is got of a list with one more at its end, after a function
-pub got_push : {X Y : Type 0} (f : X → Y) (xs : List X) (x : X) (j : ℕ) (y : Y) → slice_get (map f (xs ++ x ∷ [])) j ≡ Some y → (slice_get (map f xs) j ≡ Some y) ⊎ (f x ≡ y)
-got_push f [] x zero y e = inr (let z : Some (f x) ≡ Some y = e in cc)
-got_push f [] x (suc j) y e = absurd (let z : None ≡ Some y = e in cc)
-got_push f (w ∷ xs) x zero y e = inl e
-got_push f (w ∷ xs) x (suc j) y e = got_push f xs x j y e
+-- one pass more, of the next caller
+pub fresh_more : {X : Type 0} (nodes rows callers first : ℕ) (f : X → Pass) (xs : List X) (x : X) (n : ℕ) → length xs ≡ n → AreFresh nodes rows callers first (map f xs) → f x ≡ pass_of (opened_view nodes rows callers (first + n)) (first + n) → AreFresh nodes rows callers first (map f (xs ++ x ∷ []))
+fresh_more nodes rows callers first f xs x n len fresh own j p e =
+    ⊎_elim (λ old. fresh j p old) (λ new. sym new.0 ∙ (own ∙ ap (λ (k : ℕ). pass_of (opened_view nodes rows callers (first + k)) (first + k)) (sym len ∙ sym new.1))) (got_push f xs x j p e)
+
+both : (v w : View) (a b : ℕ) → v ≡ w → a ≡ b → pass_of v a ≡ pass_of w b
+both v w a b e f = rw (e, f) refl
+
+sized : (n n' r r' k k' c c' : ℕ) → n ≡ n' → r ≡ r' → k ≡ k' → c ≡ c' → opened_view n r k c ≡ opened_view n' r' k' c'
+sized n n' r r' k k' c c' a b d e = rw (a, b, d, e) refl
+
+-- a pass over what the store gave to its next caller
+pub fresh_pass : (p : Pass) (v : View) (caller n n' r r' k k' c c' : ℕ) → p ≡ pass_of v caller → v.about.caller ≡ Some caller → v ≡ opened_view n r k c → n ≡ n' → r ≡ r' → k ≡ k' → c ≡ c' → p ≡ pass_of (opened_view n' r' k' c') c'
+fresh_pass p v caller n n' r r' k k' c c' is own opened a b d e =
+    let number : Some caller ≡ Some c = sym own ∙ ap (λ (w : View). w.about.caller) opened in
+    let same : caller ≡ c = cc in
+    is ∙ both v (opened_view n' r' k' c') caller c' (opened ∙ sized n n' r r' k k' c c' a b d e) (same ∙ e)

@@ -29,6 +29,8 @@ pub struct NamedPass<J: Naming> {
 }
 
 impl<J: Naming> NamedPass<J> {
+    ghost use Rattle.word_store.specs.Passes.{view_of};
+
     /// The pass under the name of its store.
     pub fn new(pass: Pass) -> NamedPass<J>
         requires { store_of pass ≡ J.store }
@@ -38,6 +40,13 @@ impl<J: Naming> NamedPass<J> {
             pass,
             of: PhantomData,
         }
+    }
+
+    /// How many rows the store has.
+    pub fn rows(&self) -> u32
+        ensures { result ≡ (view_of self.now.pass).about.rows }
+    {
+        self.pass.rows()
     }
 }
 

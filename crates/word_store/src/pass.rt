@@ -55,4 +55,11 @@ impl Pass {
     {
         self.caller
     }
+
+    /// How many rows the store has.
+    pub fn rows(&self) -> u32
+        ensures { result ≡ (view_of self.now).about.rows }
+    {
+        self.layout.rows
+    }
 }

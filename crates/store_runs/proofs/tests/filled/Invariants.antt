@@ -1,0 +1,12 @@
+use Rattle.std.proofs.Common.{◌≡◌}
+use Rattle.lazy_rec.specs.declared.events.Kind.TheVariants.{Bankq}
+use Rattle.version_book.specs.Calls.{HasSeen}
+use Rattle.store_runs.proofs.tests.filled.Given as goal
+
+abbrev pub invariant-loop : goal.invariant-loop
+invariant-loop g l = record {
+  about : l.pass.view.about ≡ l.fn.pass.view.about;
+  caller : l.pass.caller ≡ l.fn.pass.caller;
+  seen : HasSeen l.pass l.last;
+  kind : l.last.kind ≡ Bankq;
+}
