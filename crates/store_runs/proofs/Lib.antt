@@ -4,3 +4,4 @@ pub mod Begun
 pub mod Turns
 pub mod Heads
 pub mod Extending
+pub mod Streams

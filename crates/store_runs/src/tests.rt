@@ -4,6 +4,9 @@ ghost use Rattle.heap_store.specs.Growth.{Grows};
 ghost use Rattle.version_book.specs.Calls.{HasSeen};
 ghost use Rattle.word_store.specs.Stores.{IsOpened, store_id};
 
+mod small_calls;
+mod suspension;
+
 use super::*;
 use heap_store::{Rows, Version};
 use lazy_rec::{Kind, Op, Ref, SuspState};
