@@ -38,7 +38,7 @@ impl Claims for Pass {
     ghost use Rattle.heap_store.specs.View.{ClaimAnswer, MayComplete, Completed, GivenUp};
     ghost use Rattle.word_store.specs.Passes.{store_of, view_of};
 
-    #[inline]
+    #[inline(always)]
     fn claim(&mut self, s: Ref) -> Claim
         requires pending { holds (recs (view_of self.old).seen) s.0 is_pending ≡ true }
         requires funded { is_funded_at (view_of self.old).seen s.0 ≡ true }

@@ -41,7 +41,7 @@ impl Heap for Pass {
 
     ghost view = { view_of };
 
-    #[inline]
+    #[inline(always)]
     fn read(&mut self, r: Ref) -> Rec
         requires { is_published (recs (view_of self.old).seen) r.0 ≡ true }
         ensures quiet { Quiet (view_of self.old) (view_of self.new) }
@@ -56,7 +56,7 @@ impl Heap for Pass {
         decode([first, second, third, fourth])
     }
 
-    #[inline]
+    #[inline(always)]
     fn state(&mut self, s: Ref) -> SuspState
         requires { holds (recs (view_of self.old).seen) s.0 is_pending ≡ true }
         ensures quiet { Quiet (view_of self.old) (view_of self.new) }
@@ -88,7 +88,7 @@ impl Heap for Pass {
         Ok(Run::new(first, first + k))
     }
 
-    #[inline]
+    #[inline(always)]
     fn put(&mut self, run: &mut Run, rec: Rec) -> Ref
         requires held { IsInHand (view_of self.old).hand run.old }
         requires left { run.old.next < run.old.end }

@@ -55,22 +55,22 @@ impl<J: Naming> Heap for NamedPass<J> {
 
     ghost view = { λ p. view_of p.pass };
 
-    #[inline]
+    #[inline(always)]
     fn read(&mut self, r: Ref) -> Rec {
         self.pass.read(r)
     }
 
-    #[inline]
+    #[inline(always)]
     fn state(&mut self, s: Ref) -> SuspState {
         self.pass.state(s)
     }
 
-    #[inline]
+    #[inline(always)]
     fn reserve(&mut self, k: u32) -> Result<Run, Full> {
         self.pass.reserve(k)
     }
 
-    #[inline]
+    #[inline(always)]
     fn put(&mut self, run: &mut Run, rec: Rec) -> Ref {
         self.pass.put(run, rec)
     }
@@ -79,39 +79,39 @@ impl<J: Naming> Heap for NamedPass<J> {
 }
 
 impl<J: Naming> Claims for NamedPass<J> {
-    #[inline]
+    #[inline(always)]
     fn claim(&mut self, s: Ref) -> Claim {
         self.pass.claim(s)
     }
 
-    #[inline]
+    #[inline(always)]
     fn complete(&mut self, s: Ref, place: Ref, steps: u32) {
         self.pass.complete(s, place, steps);
     }
 
-    #[inline]
+    #[inline(always)]
     fn give_up(&mut self, s: Ref) {
         self.pass.give_up(s);
     }
 }
 
 impl<J: Naming> Rows for NamedPass<J> {
-    #[inline]
+    #[inline(always)]
     fn draw_name(&mut self) -> Result<u32, NamesFull> {
         self.pass.draw_name()
     }
 
-    #[inline]
+    #[inline(always)]
     fn store_row(&mut self, name: u32, word: u32, value: u64) {
         self.pass.store_row(name, word, value);
     }
 
-    #[inline]
+    #[inline(always)]
     fn load_row(&mut self, name: u32, word: u32) -> u64 {
         self.pass.load_row(name, word)
     }
 
-    #[inline]
+    #[inline(always)]
     fn load_counts(&mut self) -> (u64, u64) {
         self.pass.load_counts()
     }

@@ -25,7 +25,7 @@ impl Pass {
     ghost use Rattle.word_store.specs.Passes.{Stays, sight_of, view_of, slots_of};
 
     /// A load.
-    #[inline]
+    #[inline(always)]
     pub(crate) fn look(&mut self, word: usize) -> u64
         requires { word < word_count self.old.layout.nodes self.old.layout.rows }
         ensures stays { Stays self.old self.new }
@@ -56,7 +56,7 @@ impl Pass {
     }
 
     /// Stores a record word of a place in hand, one behind the first.
-    #[inline]
+    #[inline(always)]
     pub(crate) fn fill(&mut self, place: Ref, j: usize, x: u64)
         requires held { contains (sight_of self.old).hand.reserved place.0 ≡ true }
         requires word { (0 < j) × (j < 4) }
@@ -69,7 +69,7 @@ impl Pass {
     }
 
     /// Stores the first record word of a place in hand, whose others are filled.
-    #[inline]
+    #[inline(always)]
     pub(crate) fn publish(&mut self, place: Ref, x: u64, _rec: Rec)
         requires held { contains (sight_of self.old).hand.reserved place.0 ≡ true }
         requires words { x ∷ slice_index (sight_of self.old).words (record_word_at place.0 1) ∷ slice_index (sight_of self.old).words (record_word_at place.0 2) ∷ slice_index (sight_of self.old).words (record_word_at place.0 3) ∷ [] ≡ words_of _rec }
@@ -83,7 +83,7 @@ impl Pass {
     }
 
     /// Sets the lowest bit of a suspension's state word, and answers what the word was.
-    #[inline]
+    #[inline(always)]
     pub(crate) fn attempt(&mut self, s: Ref) -> u64
         requires pending { holds (recs (seen_by (sight_of self.old))) s.0 is_pending ≡ true }
         requires funded { is_funded_at (seen_by (sight_of self.old)) s.0 ≡ true }
