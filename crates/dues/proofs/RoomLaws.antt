@@ -1,5 +1,6 @@
 -- How large the places of an event and the sums over a script can be.
-use Rattle.std.proofs.Common.{ℕ, zero, suc, ◌+◌, ◌*◌, ◌≤◌, ◌<◌, ◌^◌, arith, Option, Some, None, List}
+use Rattle.std.proofs.Common.{◌≡◌, ℕ, zero, suc, ◌+◌, ◌*◌, ◌≤◌, ◌<◌, ◌^◌, arith, Option, Some, None, List, sym, ap, ◌∙◌}
+use Rattle.std.specs.Prelude.{slice_get}
 use Rattle.lazy_rec.specs.declared.events.Kind.{Kind}
 use Rattle.lazy_rec.specs.declared.events.Kind.TheVariants as kinds
 use Rattle.lazy_rec.specs.declared.events.Op.{Op}
@@ -116,6 +117,15 @@ places_to_fit events last few =
       sum_fits (λ i. places_of (event_of events) (kind_of (event_of events) i) (event_of events i)) most_places
           (λ i. places_of_fit (event_of events) (kind_of (event_of events) i) (event_of events i)) last,
     )
+
+-- and with one more event, whose places don't depend on sizes
+pub fixed_more : (events : List Event) (kinds : List Kind) (i total p : ℕ) (k : Kind) (e : Event) → total ≡ places_to events i → slice_get kinds i ≡ Some k → slice_get events i ≡ Some e
+    → slice_get kinds i ≡ kind_of (event_of events) (suc i) → ((n m : ℕ) → places k e.op n m ≡ p) → total + p ≡ places_to events (suc i)
+fixed_more events kinds i total p k e is kind here same all =
+    let named = event_of events in
+    let added : p ≡ places_of named (kind_of named (suc i)) (named (suc i)) =
+    sym (all (bound_of named e.base) (bound_of named e.other)) ∙ (ap (λ o. places_of named o (Some e)) (sym kind ∙ same) ∙ ap (places_of named (kind_of named (suc i))) (sym here)) in
+    ap (λ t. t + p) is ∙ ap (λ q. places_to events i + q) added
 
 pub bounds_to_fit : (events : List Event) (last : ℕ) → last ≤ MOST_EVENTS → sum_to (both_bounds (event_of events)) last < 2 ^ 49
 bounds_to_fit events last few = omega (arith, sum_fits (both_bounds (event_of events)) most_items (both_fit (event_of events)) last)

@@ -6,6 +6,6 @@ pub mod rooms;
 pub mod sizes;
 pub mod tables;
 
-pub use rooms::{model_size, room, room_covers, room_fits};
+pub use rooms::{fixed_room, model_size, room, room_covers, room_fits};
 pub use sizes::{second_bound, size_bound, size_bounds_hold};
 pub use tables::{direct, due, never_forces};

@@ -1,6 +1,6 @@
 //! The room of a script and the sum of its size bounds, in one pass over its events.
 
-ghost use Rattle.std.specs.Prelude.{◌≡◌, ℕ, ◌+◌, ◌*◌, ◌≤◌, ◌<◌, ◌^◌, cond, List, Some, IfOk, IfSome, IsSome, length};
+ghost use Rattle.std.specs.Prelude.{◌≡◌, ℕ, suc, ◌+◌, ◌*◌, ◌≤◌, ◌<◌, ◌^◌, cond, List, Some, IfOk, IfSome, IsSome, length, slice_get};
 ghost use Rattle.lazy_rec.specs.declared.events.Event.{Event};
 ghost use Rattle.lazy_rec.specs.Kinds.{is_split};
 ghost use Rattle.lazy_rec.specs.History.{event_of, kind_of, IsScript};
@@ -90,6 +90,8 @@ fn fixed_places(kind: Kind, op: Op) -> Option<u64>
 {
     match (kind, op) {
         (_, Op::Size | Op::Head) => Some(0),
+        (Kind::Stream | Kind::Bankq | Kind::Rtq | Kind::Heap, Op::New(_)) => Some(1),
+        (_, Op::New(_)) => Some(0),
         (Kind::Stream, Op::Cons) => Some(2),
         (Kind::Stream, Op::Tail) => Some(1),
         (Kind::Bankq | Kind::Rtq, Op::Snoc) => Some(3 + 8),
@@ -137,6 +139,25 @@ pub fn room(alloc: Global, events: &[Event]) -> Result<u64, NoMemory>
         kept.push_reserved(versions);
     }
     Ok(total)
+}
+
+/// The same where no event's places depend on sizes, as in a script of queues; else nothing. It reads the kinds of the events, in
+/// order, and takes no memory.
+#[inline(never)]
+pub fn fixed_room(kinds: &[Kind], events: &[Event]) -> Option<u64>
+    requires script { IsScript events.now }
+    requires many { length kinds.now ≡ length events.now }
+    requires kinds { (i : ℕ) → i < length events.now → slice_get kinds.now i ≡ kind_of (event_of events.now) (suc i) }
+    ensures { IfSome result (λ places. places ≡ room events.now) }
+{
+    let mut total = 0;
+    for i in 0..events.len() {
+        let Some(places) = fixed_places(kinds[i], events[i].op) else {
+            return None;
+        };
+        total += places;
+    }
+    Some(total)
 }
 
 /// The sum of the size bounds of all versions of a script, both of a split: what a model that copies lists holds at most.

@@ -1,7 +1,6 @@
 //! What runs on one thread.
 ghost use Rattle.std.specs.Prelude.{◌≡◌, ◌≢◌, ◌↔◌, ◌≤◌, ℕ, List, Option, map, string_bytes, false, None, Some, IfOk, IfSome, OnOk, IfErr, length};
 ghost use Rattle.lazy_rec.specs.declared.events.Event.{Event};
-ghost use Rattle.lazy_rec.specs.History.{IsScript};
 ghost use Rattle.dues.specs.Rooms.{room};
 ghost use Rattle.heap_store.specs.World.{World};
 ghost use Rattle.script_text.specs.Generator.{generated};
@@ -19,10 +18,10 @@ ghost use Rattle.lazy_tool.specs.Headline.{IsAnswered, KeepsBound};
 use crate::built::first_unbuilt;
 use crate::faults::Why;
 use crate::words::{Command, read_words};
-use dues::room;
+use dues::{fixed_room, room};
 use lazy_outside::{ReadError, Sink, Source, read_whole, write_whole};
+use lazy_rec::NoMemory;
 use lazy_rec::limits::{MOST_EVENTS, MOST_NODES};
-use lazy_rec::{Event, NoMemory};
 use report_text::{Printed, report};
 use script_text::{Script, ScriptFault, generate, print_script, read_script};
 use std::alloc::Global;
@@ -88,17 +87,27 @@ struct Ran {
     report: Printed,
 }
 
+// The room of a script. Where the kinds of its events tell it, no more is read.
+fn room_of(alloc: Global, script: &Script) -> Result<u64, NoMemory>
+    ensures { IfOk result (λ places. places ≡ room script.now.events) }
+{
+    let events = script.events();
+    match fixed_room(script.kinds(), events) {
+        Some(places) => Ok(places),
+        None => room(alloc, events),
+    }
+}
+
 // How many nodes the store of a script has: so many as are asked for, else those with which no row is full.
-fn nodes_for(alloc: Global, nodes: Option<u32>, events: &[Event]) -> Result<u32, NoMemory>
-    requires script { IsScript events.now }
-    requires small { IfSome nodes (λ n. n ≤ MOST_NODES) }
-    ensures nodes { IfOk result (λ n. n ≡ nodes_for nodes events.now) }
+fn nodes_for(alloc: Global, nodes: Option<u32>, script: &Script) -> Result<u32, NoMemory>
+    requires { IfSome nodes (λ n. n ≤ MOST_NODES) }
+    ensures nodes { IfOk result (λ n. n ≡ nodes_for nodes script.now.events) }
     ensures small { IfOk result (λ n. n ≤ MOST_NODES) }
 {
     if let Some(nodes) = nodes {
         return Ok(nodes);
     }
-    let room = room(alloc, events)?;
+    let room = room_of(alloc, script)?;
     Ok(room.min(u64::from(MOST_NODES)) as u32)
 }
 
@@ -108,7 +117,7 @@ fn run_script(alloc: Global, nodes: Option<u32>, script: &Script) -> Result<Ran,
     ensures { IfOk result (IsReported nodes script.now.events) }
 {
     let events = script.events();
-    let nodes = nodes_for(alloc, nodes, events)?;
+    let nodes = nodes_for(alloc, nodes, script)?;
     let closed = solo_book(alloc, nodes, events)?;
     let report = report(alloc, &closed)?;
     Ok(Ran { closed, report })
