@@ -1,8 +1,9 @@
 //! The report of a closed book as bytes: one line for each event, and one of totals.
 #![tactic(auto)]
 
-ghost use Rattle.std.specs.Prelude.{◌≡◌, ◌++◌, ◌+◌, ◌<◌, ◌≤◌, IfOk, not, codes, decimal, length};
-ghost use Rattle.report_text.specs.Report.{is_reply, reply_text, ended_text, row_text, field_text, totals_text, report_of, some_given_up};
+ghost use Rattle.std.specs.Prelude.{◌≡◌, ◌++◌, ◌+◌, ◌<◌, ◌≤◌, IfOk, codes, decimal, length};
+ghost use Rattle.version_book.specs.Closed.{row_told};
+ghost use Rattle.report_text.specs.Report.{reply_text, ended_text, told_text, field_text, totals_text, report_of, is_lost, some_given_up};
 ghost use Rattle.report_text.specs.Written.{counted};
 
 mod counter;
@@ -12,7 +13,7 @@ use counter::Counter;
 use lazy_rec::{NoMemory, Reply};
 use std::alloc::{AllocError, Global};
 use text::{LINE_ROOM, Text};
-use version_book::{Closed, Ended, Row, Totals};
+use version_book::{Closed, Ended, Totals};
 
 /// A report as bytes, and whether some row in it is given up: it is full, had no memory or no base.
 #[derive(Drop)]
@@ -78,7 +79,7 @@ fn put_replied(text: &mut Text, counter: &Counter, name: u32, reply: Reply)
 }
 
 // The line of an event that ended somehow, whose name the counter shows.
-#[inline(always)]
+#[cold]
 fn put_other(text: &mut Text, counter: &Counter, name: u32, ended: Ended)
     requires counter { counter.now ≡ counted name }
     requires room { LINE_ROOM ≤ text.old.room }
@@ -89,16 +90,26 @@ fn put_other(text: &mut Text, counter: &Counter, name: u32, ended: Ended)
     text.put_text("\n");
 }
 
-// The line of a row, whose name the counter shows.
+// The line of a name, which the counter shows. Answers whether its row is given up. Of a row with a reply no more is read.
 #[inline(always)]
-fn put_row(text: &mut Text, counter: &Counter, row: Row)
-    requires counter { counter.now ≡ counted row.name }
+fn put_line(text: &mut Text, counter: &Counter, closed: &Closed, name: u32) -> bool
+    requires low { 1 ≤ name }
+    requires high { name ≤ length closed.now.rows }
+    requires counter { counter.now ≡ counted name }
     requires room { LINE_ROOM ≤ text.old.room }
-    ensures { text.new.text ≡ text.old.text ++ row_text row }
+    ensures text { text.new.text ≡ text.old.text ++ told_text (row_told closed.now name) }
+    ensures given_up { result ≡ is_lost closed.now name }
 {
-    match row.ended {
-        Ended::Reply { reply, .. } => put_replied(text, counter, row.name, reply),
-        _ => put_other(text, counter, row.name, row.ended),
+    match closed.reply(name) {
+        Some(reply) => {
+            put_replied(text, counter, name, reply);
+            false
+        }
+        None => {
+            let row = closed.row(name);
+            put_other(text, counter, name, row.ended);
+            true
+        }
     }
 }
 
@@ -124,13 +135,6 @@ fn put_totals(text: &mut Text, totals: Totals)
     text.put_text("\n");
 }
 
-// Whether a row is given up.
-fn is_given_up(row: Row) -> bool
-    ensures { result ≡ not (is_reply row.ended) }
-{
-    !matches!(row.ended, Ended::Reply { .. })
-}
-
 #[inline(never)]
 fn lines(alloc: Global, closed: &Closed) -> Result<Printed, AllocError>
     ensures text { IfOk result (λ r. r.text.items ≡ report_of closed.now) }
@@ -142,9 +146,7 @@ fn lines(alloc: Global, closed: &Closed) -> Result<Printed, AllocError>
     for i in 0..closed.rows() {
         text.make_room()?;
         counter.next(u64::from(i));
-        let row = closed.row(i + 1);
-        has_given_up |= is_given_up(row);
-        put_row(&mut text, &counter, row);
+        has_given_up |= put_line(&mut text, &counter, closed, i + 1);
     }
     text.make_room()?;
     put_totals(&mut text, closed.totals());

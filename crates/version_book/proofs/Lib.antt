@@ -16,6 +16,7 @@ pub mod Outcomes
 pub mod Called
 pub mod Entries
 pub mod RowReads
+pub mod RowReplies
 pub mod IdlePasses
 pub mod InOrder
 pub mod Charges

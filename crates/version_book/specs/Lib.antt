@@ -4,6 +4,7 @@ pub mod RowWords
 pub mod Works
 pub mod Finish
 pub mod Closed
+pub mod Replies
 pub mod Totals
 pub mod Pass
 pub mod Calls

@@ -4,12 +4,13 @@ ghost use Rattle.heap_store.specs.World.{node_at};
 ghost use Rattle.heap_store.specs.Budget.{dues};
 ghost use Rattle.heap_store.specs.Opened.{view_of};
 ghost use Rattle.version_book.specs.Closed.{IsPaid, IsWhole, row_told, node_told};
+ghost use Rattle.version_book.specs.Replies.{reply_told};
 ghost use Rattle.version_book.specs.Totals.{totals_of};
 
 use crate::rows::{self, Row};
 use crate::totals::Totals;
 use heap_store::PlainHeap;
-use lazy_rec::{Rec, Ref, SuspState};
+use lazy_rec::{Rec, Ref, Reply, SuspState};
 use std::marker::Model;
 
 /// A closed book. It is seen as its world: the nodes by their places, and the words of the rows by their names. The world is
@@ -64,6 +65,16 @@ impl Closed {
         ensures { row_told self.now name ≡ Some result }
     {
         rows::row_of(name, self.heap.words(name))
+    }
+
+    /// The reply of a name, where its row has one: what most lines of a report show. The event and the versions aren't read.
+    #[inline(always)]
+    pub fn reply(&self, name: u32) -> Option<Reply>
+        requires low { 1 ≤ name }
+        requires high { name ≤ length self.now.rows }
+        ensures { result ≡ reply_told self.now name }
+    {
+        rows::reply_of_row(name, self.heap.words(name))
     }
 
     /// The record and the state of a place, where it is published.

@@ -5,6 +5,7 @@ ghost use Rattle.lazy_rec.specs.History.{second_mark};
 ghost use Rattle.heap_store.specs.Rows.{is_ended, answer_of, ending_of, row_of, caller_of_word, is_begun_word, word};
 ghost use Rattle.heap_store.specs.Legal.{ending_in_range};
 ghost use Rattle.version_book.specs.Closed.{version_in, ended_told, told_of, IsReadable};
+ghost use Rattle.version_book.specs.Replies.{reply_of_told};
 
 use crate::words::{FULL, MEMORY, REPLIED, op_of, reply_of, second_version, version_of};
 use heap_store::Version;
@@ -107,4 +108,16 @@ pub(crate) fn row_of(name: u32, words: &[u64; 8]) -> Row
         begun,
         ended: ended_of(name, words),
     }
+}
+
+/// The reply that such a row tells, where it has one. No other of its words is read.
+#[inline(always)]
+pub(crate) fn reply_of_row(name: u32, words: &[u64; 8]) -> Option<Reply>
+    requires { IsReadable name words.now }
+    ensures { result ≡ reply_of_told (told_of name (row_of name words.now)) }
+{
+    if words[5] == REPLIED {
+        return Some(reply_of(words[4], words[7]));
+    }
+    None
 }

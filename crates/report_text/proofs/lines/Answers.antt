@@ -1,23 +1,18 @@
-use Rattle.std.proofs.Common.{◌≡◌, ◌+◌, ◌++◌, ap, sym, ◌∙◌}
-use Rattle.report_text.proofs.ToldRows.{some_more, row_named, line_more}
-use Rattle.report_text.specs.Report.{row_text}
+use Rattle.std.proofs.Common.{◌+◌, ap, ◌∙◌, ◌++◌}
+use Rattle.version_book.specs.Closed.{row_told}
+use Rattle.report_text.proofs.ToldRows.{some_more, line_more}
+use Rattle.report_text.specs.Report.{told_text}
 use Rattle.report_text.specs.Written.{counted}
 use Rattle.report_text.proofs.lines.Goals as goal
 
-pub put_row-requires : goal.put_row-requires
-put_row-requires c =
-    let shown : c.next.new.self ≡ counted (c.from.result + 1) = c.next.ensures in
-    let named = row_named c.args.closed.now (c.loop-i.i + 1) c.row-row.result c.row-row.ensures in
-    record {
-      counter = shown ∙ (ap (λ n. counted (n + 1)) c.from.ensures ∙ ap counted (sym named));
-      room = c.in_ok-make_room.ensures.room;
-    }
+pub put_line-has_given_up-requires-clause-counter : goal.put_line-has_given_up-requires-clause-counter
+put_line-has_given_up-requires-clause-counter c = c.next.ensures ∙ ap (λ n. counted (n + 1)) c.from.ensures
 
 pub loop-i-preserved : goal.loop-i-preserved
 loop-i-preserved c =
-    let shown : c.next.new.self ≡ counted (c.from.result + 1) = c.next.ensures in
+    let w = c.args.closed.now in
     record {
-      text = line_more c.args.closed.now c.loop-i.i c.loop-i.text.text c.put_row.new.text.text c.row-row.result c.loop-i.invariant.text c.row-row.ensures (c.put_row.ensures ∙ ap (λ l. l ++ row_text c.row-row.result) c.make_room.ensures.text);
-      given_up = some_more c.args.closed.now c.loop-i.i c.loop-i.has_given_up c.is_given_up-has_given_up.result c.row-row.result c.loop-i.invariant.given_up c.row-row.ensures c.is_given_up-has_given_up.ensures;
-      counter = shown ∙ ap (λ n. counted (n + 1)) c.from.ensures;
+      text = line_more w c.loop-i.i c.loop-i.text.text c.put_line-has_given_up.new.text.text c.loop-i.invariant.text (c.put_line-has_given_up.ensures.text ∙ ap (λ l. l ++ told_text (row_told w (c.loop-i.i + 1))) c.make_room.ensures.text);
+      given_up = some_more w c.loop-i.i c.loop-i.has_given_up c.put_line-has_given_up.result c.loop-i.invariant.given_up c.put_line-has_given_up.ensures.given_up;
+      counter = c.next.ensures ∙ ap (λ n. counted (n + 1)) c.from.ensures;
     }
