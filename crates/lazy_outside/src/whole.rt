@@ -15,6 +15,9 @@ pub const MOST_BYTES: usize = 16_777_216;
 // How many bytes more there is room for at a time.
 const STEP: usize = 65_536;
 
+// What stands in room until it is filled. It is copied by pieces, since `memset` stores what is longer byte by byte.
+static ZEROS: [u8; 1_024] = [0; 1_024];
+
 /// Why a source was not read to its end.
 #[derive(Clone, Copy, Debug, PartialEq, Eq, Error)]
 pub enum ReadError {
@@ -81,6 +84,9 @@ fn make_room(bytes: &mut Vec<u8>, filled: usize) -> Result<(), AllocError>
         return Ok(());
     }
     let len = (filled + STEP).min(MOST_BYTES + 1);
+    while bytes.len() + ZEROS.len() <= len {
+        bytes.extend_from_slice(&ZEROS)?;
+    }
     bytes.resize(len, 0)
 }
 
