@@ -1,5 +1,5 @@
 -- Lines that are read in one pass are lines of their events.
-use Rattle.std.proofs.Common.{◌≡◌, ℕ, zero, suc, ◌+◌, ◌-◌, ◌<◌, ◌≤◌, Bool, true, false, cond, not, ◌&&◌, ◌||◌, List, [], ◌∷◌, ◌++◌, length, get_or, take, drop, Some, Ok, refl, sym, ap, subst, ◌∙◌, codes, append_assoc, length-append, inl, inr, lit<, lit≤, arith}
+use Rattle.std.proofs.Common.{◌≡◌, ℕ, suc, ◌+◌, ◌-◌, ◌<◌, ◌≤◌, Bool, true, false, cond, not, ◌&&◌, ◌||◌, List, [], ◌∷◌, ◌++◌, length, get_or, take, drop, Some, Ok, refl, sym, ap, subst, ◌∙◌, codes, append_assoc, length-append, inl, inr, lit<, lit≤, arith}
 use Rattle.std.specs.List.{list_all, join_with_byte, AllByRecursion}
 use Rattle.std.specs.Char.{is_ascii_digit}
 use Rattle.std.specs.Str.Parse.{digits_value}
@@ -18,6 +18,7 @@ use Rattle.script_text.specs.Lines.{lines_of, most_digits, most_number, number_o
 use Rattle.script_text.specs.Words.{look, op_word, op_syntax, kind_word, has_labels, syntax_of}
 use Rattle.script_text.specs.Events.{ScriptView, Names, event, said, said_of, on_base, on_two, event_with}
 use Rattle.script_text.specs.Text.{EventLine, Before, Leads, after, event_lines, events_with, labels_with, nothing}
+use Rattle.script_text.specs.FrontDigits.{IsFront}
 use Rattle.script_text.specs.Common.{IsNumberBefore, IsCommonEvent, ReadOn}
 use Rattle.script_text.proofs.Cuts.{all_digits}
 use Rattle.script_text.proofs.Fits.{shape}
@@ -25,12 +26,6 @@ use Rattle.script_text.proofs.Back.{IsWord, words_join, join_no_end, line_ends, 
 use Rattle.script_text.proofs.SoFar.{Reads, line_at, at_event, leads_more}
 
 -- ---- numbers
-
-take_twice : {X : Type 0} (n m : ℕ) (l : List X) → n ≤ m → take n (take m l) ≡ take n l
-take_twice zero m l h = refl
-take_twice (suc n) zero l h = absurd (omega arith)
-take_twice (suc n) (suc m) [] h = refl
-take_twice (suc n) (suc m) (x ∷ xs) h = ap (λ ys. x ∷ ys) (take_twice n m xs (omega arith))
 
 -- a list with a first element
 headed : (r rest : List ℕ) (x : ℕ) → 0 < length r → get_or r 0 0 ≡ x → rest ≡ drop 1 r → r ≡ x ∷ rest
@@ -43,11 +38,12 @@ ten forms.Two = lit≤ tt
 ten forms.Three = lit≤ tt
 
 -- the digits that bytes begin with, and a byte behind them
-pub number_at : (form : Form) (bytes r rest : List ℕ) (end count value : ℕ) → 10 < length bytes → 0 < count → count ≤ 10 → list_all is_ascii_digit (take count (take 10 bytes)) ≡ true → value ≡ digits_value 10 (take count (take 10 bytes)) → value ≤ most_number form → r ≡ drop count bytes → rest ≡ drop 1 r → get_or r 0 0 ≡ end → IsNumberBefore form bytes end value rest
-number_at form bytes r rest end count value long some few all is low left after here =
-    let same = take_twice count 10 bytes few in
-    let digits : list_all is_ascii_digit (take count bytes) ≡ true = rw same at all in
-    let worth : value ≡ digits_value 10 (take count bytes) = rw same at is in
+pub number_at : (form : Form) (bytes r rest : List ℕ) (end count value : ℕ) → 16 ≤ length bytes → IsFront bytes value count → value ≤ most_number form → r ≡ drop count bytes → rest ≡ drop 1 r → get_or r 0 0 ≡ end → IsNumberBefore form bytes end value rest
+number_at form bytes r rest end count value long front low left after here =
+    let some = front.some in
+    let few = front.few in
+    let digits = front.digits in
+    let worth = front.value in
     let many : length (take count bytes) ≡ count = omega (arith, ap length (take-append-drop count bytes), length-append (take count bytes) (drop count bytes), length-drop count bytes) in
     let there : 0 < length r = omega (arith, ap length left, length-drop count bytes) in
     let cut : drop count bytes ≡ end ∷ rest = sym left ∙ headed r rest end there here after in
@@ -201,6 +197,17 @@ read_more s t n m bytes rest after e r c =
 leads_on : (b : Before) (ls : List EventLine) (c : Before) (ks : List EventLine) (d : Before) → Leads b ls c → Leads c ks d → Leads b (ls ++ ks) d
 leads_on b [] c ks d h k = subst (λ x. Leads x ks d) (sym h) k
 leads_on b (l ∷ ls) c ks d h k = (h.0, h.1, leads_on (after b l h.0) ls c ks d h.2 k)
+
+-- lines after lines
+pub read_twice : (s t u : ScriptView) (n m k : ℕ) (bytes rest after : List ℕ) → ReadOn s n bytes t m rest → ReadOn t m rest u k after → ReadOn s n bytes u k after
+read_twice s t u n m k bytes rest after r q =
+    record {
+      lines = r.lines ++ q.lines;
+      split = r.split ∙ (ap (λ ls. r.lines ++ ls) q.split ∙ sym (append_assoc r.lines q.lines (event_lines k (lines_of after))));
+      leads = λ labels. leads_on (record { script = s; labels = labels }) r.lines (record { script = t; labels = labels }) q.lines (record { script = u; labels = labels }) (r.leads labels) (q.leads labels);
+      number = let one = r.number in let two = q.number in omega arith;
+      shorter = let one = r.shorter in let two = q.shorter in omega arith;
+    }
 
 pub reads_on : (form : Form) (all : List EventLine) (s t : ScriptView) (names : Names) (n m : ℕ) (bytes rest : List ℕ) → ReadOn s n bytes t m rest → Reads form all (event_lines n (lines_of bytes)) s names → Reads form all (event_lines m (lines_of rest)) t names
 reads_on form all s t names n m bytes rest r h =

@@ -7,4 +7,6 @@ pub mod Back
 pub mod Unique
 pub mod SoFar
 pub mod GeneratorLaws
+pub mod EightDigits
+pub mod FrontDigits
 pub mod CommonLines

@@ -5,4 +5,5 @@ pub mod Labels
 pub mod Events
 pub mod Text
 pub mod Generator
+pub mod FrontDigits
 pub mod Common

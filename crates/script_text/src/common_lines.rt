@@ -1,9 +1,7 @@
 //! Lines as most are: the word of an operation, then its numbers or kind behind single spaces, then the line's end. They are
 //! read in one pass. A line that is written otherwise is left to the reader of any line.
-ghost use Rattle.std.specs.Prelude.{◌≡◌, ◌<◌, ◌≤◌, ◌++◌, ◌∷◌, codes, length, take, IfSome, true, false};
-ghost use Rattle.std.specs.Char.{is_ascii_digit};
-ghost use Rattle.std.specs.List.{list_all};
-ghost use Rattle.std.specs.Str.Parse.{digits_value};
+ghost use Rattle.std.specs.Prelude.{◌≡◌, ℕ, ◌<◌, ◌++◌, ◌∷◌, List, codes, length, IfSome, true, false};
+ghost use Rattle.lazy_rec.specs.declared.limits.TheConstants.{MOST_EVENTS};
 ghost use Rattle.lazy_rec.specs.Kinds.{is_split};
 ghost use Rattle.script_text.specs.Words.{op_word, op_syntax, kind_word};
 ghost use Rattle.script_text.specs.declared.words.Syntax.TheVariants.{Base, Argument, Other};
@@ -11,6 +9,7 @@ ghost use Rattle.script_text.specs.Events.{said};
 ghost use Rattle.script_text.specs.Common.{IsNumberBefore, IsCommonEvent};
 
 use crate::event_lines::{event_of_new, on_base, on_two};
+use crate::front_digits::front_digits;
 use crate::lines::most_number;
 use crate::model::Form;
 use crate::script::Script;
@@ -18,9 +17,28 @@ use crate::versions::Said;
 use lazy_rec::limits::MOST_EVENTS;
 use lazy_rec::{Event, Kind, Op};
 
-// No common line has more bytes: a word has at most seven, and a number at most ten. So many bytes are asked for once, so that a
-// part of the line need not be.
+// So many bytes are asked for once, so that a part of the line need not be: a word of four letters, a number of at most ten digits
+// and what is looked at to read a second one.
 const MOST_LINE_BYTES: usize = 32;
+
+// Whether four bytes are these.
+#[inline(always)]
+fn same_four(bytes: &[u8; 4], word: &[u8; 4]) -> bool
+    ensures { result ≡ true → bytes.now ≡ word.now }
+{
+    u32::from_le_bytes(*bytes) == u32::from_le_bytes(*word)
+}
+
+// What follows a word of four letters and a space at the beginning.
+#[inline(always)]
+fn after_word<'a>(bytes: &'a [u8], word: &[u8; 4]) -> Option<&'a [u8]>
+    ensures { IfSome result (λ r. bytes.entry.now ≡ word.now ++ 32 ∷ r.now) }
+{
+    match bytes {
+        [a, b, c, d, b' ', rest @ ..] if same_four(&[*a, *b, *c, *d], word) => Some(rest),
+        _ => None,
+    }
+}
 
 // An operation with an argument, whose word and a space begin the bytes, and what follows them. `split`, which form 1 lacks, isn't
 // looked for.
@@ -31,7 +49,6 @@ fn with_argument(bytes: &[u8]) -> Option<(Op, &[u8])>
     ensures in_form { IfSome result (λ r. is_split r.0 ≡ false) }
 {
     match bytes {
-        [b's', b'n', b'o', b'c', b' ', rest @ ..] => Some((Op::Snoc, rest)),
         [b'c', b'o', b'n', b's', b' ', rest @ ..] => Some((Op::Cons, rest)),
         [b'i', b'n', b's', b'e', b'r', b't', b' ', rest @ ..] => Some((Op::Insert, rest)),
         [b'p', b'u', b's', b'h', b'l', b' ', rest @ ..] => Some((Op::Pushl, rest)),
@@ -54,8 +71,6 @@ fn with_base(bytes: &[u8]) -> Option<(Op, &[u8])>
     ensures in_form { IfSome result (λ r. is_split r.0 ≡ false) }
 {
     match bytes {
-        [b'h', b'e', b'a', b'd', b' ', rest @ ..] => Some((Op::Head, rest)),
-        [b't', b'a', b'i', b'l', b' ', rest @ ..] => Some((Op::Tail, rest)),
         [b's', b'i', b'z', b'e', b' ', rest @ ..] => Some((Op::Size, rest)),
         [b'r', b'e', b'v', b'e', b'r', b's', b'e', b' ', rest @ ..] => Some((Op::Reverse, rest)),
         [b'm', b'i', b'n', b' ', rest @ ..] => Some((Op::Min, rest)),
@@ -114,35 +129,16 @@ fn kind_before_end(bytes: &[u8]) -> Option<(Kind, &[u8])>
     }
 }
 
-// The value of the digits that bytes begin with, and how many they are.
-#[inline(always)]
-fn leading_digits(bytes: &[u8]) -> (u64, usize)
-    requires few { length bytes.now ≤ 10 }
-    ensures within { result.1 ≤ length bytes.now }
-    ensures digits { list_all is_ascii_digit (take result.1 bytes.now) ≡ true }
-    ensures value { result.0 ≡ digits_value 10 (take result.1 bytes.now) }
-{
-    let mut value = 0;
-    for (i, digit) in bytes.iter().enumerate() {
-        let worth = u64::from(*digit).wrapping_sub(48);
-        if worth > 9 {
-            return (value, i);
-        }
-        value = value * 10 + worth;
-    }
-    (value, bytes.len())
-}
-
 // The number of at most ten digits that bytes begin with, where this byte stands behind it, and what follows that byte.
 #[inline(always)]
 fn number_before(form: Form, bytes: &[u8], end: u8) -> Option<(u64, &[u8])>
     ensures { IfSome result (λ r. IsNumberBefore form bytes.entry.now end r.0 r.1.now) }
 {
-    if bytes.len() <= 10 {
+    if bytes.len() < 16 {
         return None;
     }
-    let (value, count) = leading_digits(&bytes[..10]);
-    if count == 0 || value > most_number(form) {
+    let (value, count) = front_digits(bytes)?;
+    if value > most_number(form) {
         return None;
     }
     match &bytes[count..] {
@@ -162,39 +158,109 @@ fn first_of(name: u64) -> Said
     }
 }
 
-/// The event of the first line and the bytes after the line, where the line is as most are and its event may stand next. The last
-/// lines of a text are left to the reader of any line.
+// The event of an operation with a base alone, behind its word and a space, and the bytes after the line.
 #[inline(always)]
-pub fn common_event<'a>(before: &Script, bytes: &'a [u8]) -> Option<(Event, &'a [u8])>
+fn base_line<'a>(before: &Script, op: Op, bytes: &'a [u8]) -> Option<(Event, &'a [u8])>
+    requires room { length before.now.events < MOST_EVENTS }
+    requires syntax { op_syntax op ≡ Base op }
+    requires in_form { is_split op ≡ false }
+    ensures { IfSome result (λ r. (line : List ℕ) → line ≡ op_word op ++ 32 ∷ bytes.entry.now → IsCommonEvent before.now line r.0 r.1.now) }
+{
+    let form = before.form_of();
+    let (base, after) = number_before(form, bytes, b'\n')?;
+    let Ok(event) = on_base(before, op, first_of(base), 0) else {
+        return None;
+    };
+    Some((event, after))
+}
+
+// The same with an argument.
+#[inline(always)]
+fn argument_line<'a>(before: &Script, op: Op, bytes: &'a [u8]) -> Option<(Event, &'a [u8])>
+    requires room { length before.now.events < MOST_EVENTS }
+    requires syntax { op_syntax op ≡ Argument op }
+    requires in_form { is_split op ≡ false }
+    ensures { IfSome result (λ r. (line : List ℕ) → line ≡ op_word op ++ 32 ∷ bytes.entry.now → IsCommonEvent before.now line r.0 r.1.now) }
+{
+    let form = before.form_of();
+    let (base, more) = number_before(form, bytes, b' ')?;
+    let (arg, after) = number_before(form, more, b'\n')?;
+    let Ok(event) = on_base(before, op, first_of(base), arg) else {
+        return None;
+    };
+    Some((event, after))
+}
+
+// The same with two bases.
+#[inline(always)]
+fn other_line<'a>(before: &Script, op: Op, bytes: &'a [u8]) -> Option<(Event, &'a [u8])>
+    requires room { length before.now.events < MOST_EVENTS }
+    requires syntax { op_syntax op ≡ Other op }
+    requires in_form { is_split op ≡ false }
+    ensures { IfSome result (λ r. (line : List ℕ) → line ≡ op_word op ++ 32 ∷ bytes.entry.now → IsCommonEvent before.now line r.0 r.1.now) }
+{
+    let form = before.form_of();
+    let (base, more) = number_before(form, bytes, b' ')?;
+    let (other, after) = number_before(form, more, b'\n')?;
+    let Ok(event) = on_two(before, op, first_of(base), first_of(other)) else {
+        return None;
+    };
+    Some((event, after))
+}
+
+// The event of a line of a queue's words, of which each has a way of its own, and the bytes after the line.
+#[inline(always)]
+fn queue_event<'a>(before: &Script, bytes: &'a [u8]) -> Option<(Event, &'a [u8])>
+    requires { length before.now.events < MOST_EVENTS }
+    ensures { IfSome result (λ r. IsCommonEvent before.now bytes.entry.now r.0 r.1.now) }
+{
+    if let Some(rest) = after_word(bytes, b"snoc") {
+        return argument_line(before, Op::Snoc, rest);
+    }
+    if let Some(rest) = after_word(bytes, b"head") {
+        return base_line(before, Op::Head, rest);
+    }
+    if let Some(rest) = after_word(bytes, b"tail") {
+        return base_line(before, Op::Tail, rest);
+    }
+    None
+}
+
+// The event of a line of another word, and the bytes after the line.
+#[inline(always)]
+fn other_event<'a>(before: &Script, bytes: &'a [u8]) -> Option<(Event, &'a [u8])>
+    requires { length before.now.events < MOST_EVENTS }
+    ensures { IfSome result (λ r. IsCommonEvent before.now bytes.entry.now r.0 r.1.now) }
+{
+    if let Some((op, rest)) = with_base(bytes) {
+        return base_line(before, op, rest);
+    }
+    if let Some((op, rest)) = with_argument(bytes) {
+        return argument_line(before, op, rest);
+    }
+    if let Some((op, rest)) = with_other(bytes) {
+        return other_line(before, op, rest);
+    }
+    let (kind, after) = kind_before_end(after_new(bytes)?)?;
+    Some((event_of_new(kind), after))
+}
+
+/// The event of the first line and the bytes after the line, where the line is as most are and its event may stand next: of a
+/// queue's words, or of the others. The last lines of a text are left to the reader of any line.
+#[inline(always)]
+pub fn common_event<'a>(
+    before: &Script,
+    bytes: &'a [u8],
+    of_queues: bool,
+) -> Option<(Event, &'a [u8])>
     ensures { IfSome result (λ r. IsCommonEvent before.now bytes.entry.now r.0 r.1.now) }
 {
     if before.count() >= MOST_EVENTS as usize || bytes.len() < MOST_LINE_BYTES {
         return None;
     }
-    let form = before.form_of();
-    if let Some((op, rest)) = with_base(bytes) {
-        let (base, after) = number_before(form, rest, b'\n')?;
-        let Ok(event) = on_base(before, op, first_of(base), 0) else {
-            return None;
-        };
-        return Some((event, after));
+    if of_queues {
+        queue_event(before, bytes)
+    } else {
+        other_event(before, bytes)
     }
-    if let Some((op, rest)) = with_argument(bytes) {
-        let (base, more) = number_before(form, rest, b' ')?;
-        let (arg, after) = number_before(form, more, b'\n')?;
-        let Ok(event) = on_base(before, op, first_of(base), arg) else {
-            return None;
-        };
-        return Some((event, after));
-    }
-    if let Some((op, rest)) = with_other(bytes) {
-        let (base, more) = number_before(form, rest, b' ')?;
-        let (other, after) = number_before(form, more, b'\n')?;
-        let Ok(event) = on_two(before, op, first_of(base), first_of(other)) else {
-            return None;
-        };
-        return Some((event, after));
-    }
-    let (kind, after) = kind_before_end(after_new(bytes)?)?;
-    Some((event_of_new(kind), after))
 }

@@ -4,6 +4,7 @@
 
 mod common_lines;
 mod event_lines;
+mod front_digits;
 mod generator;
 mod lines;
 mod model;

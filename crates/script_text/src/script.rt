@@ -200,9 +200,54 @@ fn with_label<'a>(
     Ok(())
 }
 
-// Reads the lines that are as most are, up to the first that isn't, and answers what follows them. `number` is that of the
-// last line that was read.
+// Reads the lines of a queue's words, or of others, that are as most are, up to the first that isn't, and answers what follows
+// them. `number` is that of the last line that was read.
 #[inline(always)]
+fn read_lines<'a>(
+    script: &mut Script,
+    number: &mut u32,
+    bytes: &'a [u8],
+    of_queues: bool,
+) -> Result<&'a [u8], AllocError>
+    requires few { number.old + length bytes.now ≤ MOST_SCRIPT_BYTES + 1 }
+    ensures { IfOk result (λ rest. ReadOn script.old (number.old + 1) bytes.entry.now script.new (number.new + 1) rest.now) }
+{
+    let mut rest = bytes;
+    while let Some((event, after)) = common_event(script, rest, of_queues) {
+        script.push(event)?;
+        *number += 1;
+        rest = after;
+    }
+    Ok(rest)
+}
+
+// Those of a queue's words, in a function of its own that has the registers for itself.
+#[inline(never)]
+fn read_queue_lines<'a>(
+    script: &mut Script,
+    number: &mut u32,
+    bytes: &'a [u8],
+) -> Result<&'a [u8], AllocError>
+    requires few { number.old + length bytes.now ≤ MOST_SCRIPT_BYTES + 1 }
+    ensures { IfOk result (λ rest. ReadOn script.old (number.old + 1) bytes.entry.now script.new (number.new + 1) rest.now) }
+{
+    read_lines(script, number, bytes, true)
+}
+
+// Those of other words.
+#[inline(never)]
+fn read_other_lines<'a>(
+    script: &mut Script,
+    number: &mut u32,
+    bytes: &'a [u8],
+) -> Result<&'a [u8], AllocError>
+    requires few { number.old + length bytes.now ≤ MOST_SCRIPT_BYTES + 1 }
+    ensures { IfOk result (λ rest. ReadOn script.old (number.old + 1) bytes.entry.now script.new (number.new + 1) rest.now) }
+{
+    read_lines(script, number, bytes, false)
+}
+
+// Those of either sort, as long as there are others between lines of queues.
 fn read_common_lines<'a>(
     script: &mut Script,
     number: &mut u32,
@@ -211,13 +256,13 @@ fn read_common_lines<'a>(
     requires few { number.old + length bytes.now ≤ MOST_SCRIPT_BYTES + 1 }
     ensures { IfOk result (λ rest. ReadOn script.old (number.old + 1) bytes.entry.now script.new (number.new + 1) rest.now) }
 {
-    let mut rest = bytes;
-    while let Some((event, after)) = common_event(script, rest) {
-        script.push(event)?;
-        *number += 1;
-        rest = after;
+    let mut rest = read_queue_lines(script, number, bytes)?;
+    let mut after = read_other_lines(script, number, rest)?;
+    while after.len() < rest.len() {
+        rest = read_queue_lines(script, number, after)?;
+        after = read_other_lines(script, number, rest)?;
     }
-    Ok(rest)
+    Ok(after)
 }
 
 /// Reads a script of at most 16,777,216 bytes.
