@@ -29,6 +29,23 @@ last n small =
           }
     ]
 
+-- the last two digits of a number that ends in 9, and what one more is
+pub record LastTwo (n : ℕ) : Type 0 where
+  pub ds : List ℕ
+  pub is : decimal n ≡ ds ++ (48 + n / 10 % 10) ∷ 57 ∷ []
+  pub next : n / 10 % 10 < 9 → decimal (n + 1) ≡ ds ++ (48 + n / 10 % 10 + 1) ∷ 48 ∷ []
+
+pub last_two : (n : ℕ) → n < 4294967296 → 10 ≤ n → n % 10 ≡ 9 → LastTwo n
+last_two n small ge nine =
+    let l = last (n / 10) (omega arith) in
+    let tens : (n + 1) / 10 ≡ n / 10 + 1 = omega arith in
+    let ones : 48 + (n + 1) % 10 ≡ 48 = omega arith in
+    record {
+      ds = l.ds;
+      is = decimal_step n ge (omega arith) ∙ (ap (λ d. decimal (n / 10) ++ (48 + d) ∷ []) nine ∙ (ap (λ ys. ys ++ 57 ∷ []) l.is ∙ append_assoc l.ds ((48 + n / 10 % 10) ∷ []) (57 ∷ [])));
+      next = λ h. decimal_step (n + 1) (omega arith) (omega arith) ∙ (ap (λ q. decimal q ++ (48 + (n + 1) % 10) ∷ []) tens ∙ (ap (λ d. decimal (n / 10 + 1) ++ d ∷ []) ones ∙ (ap (λ ys. ys ++ 48 ∷ []) (l.next h) ∙ append_assoc l.ds ((48 + n / 10 % 10 + 1) ∷ []) (48 ∷ []))));
+    }
+
 pub record IsSet (bs ds rest : List ℕ) (d x s i : ℕ) : Type 0 where
   pub here : slice_index_or bs i 0 ≡ d
   pub new : drop s (slice_set bs i x) ≡ ds ++ x ∷ rest

@@ -42,6 +42,9 @@ impl Counter {
     {
         if self.bytes[19] < b'9' {
             self.bytes[19] += 1;
+        } else if self.start < 19 && self.bytes[18] < b'9' {
+            self.bytes[18] += 1;
+            self.bytes[19] = b'0';
         } else {
             self.start = write_digits(n + 1, &mut self.bytes, 20);
         }

@@ -79,7 +79,7 @@ fn put_replied(text: &mut Text, counter: &Counter, name: u32, reply: Reply)
 }
 
 // The line of an event that ended somehow, whose name the counter shows.
-#[cold]
+#[inline(always)]
 fn put_other(text: &mut Text, counter: &Counter, name: u32, ended: Ended)
     requires counter { counter.now ≡ counted name }
     requires room { LINE_ROOM ≤ text.old.room }
