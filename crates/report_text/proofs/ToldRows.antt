@@ -43,10 +43,18 @@ told_named name (Some s) r h = go (ended_told s.ending) h
 pub row_named : (w : World) (name : ℕ) (r : ToldRow) → row_told w name ≡ Some r → r.name ≡ name
 row_named w name r h = told_named name (row_at w name) r h
 
+kept_as : (b lost : Bool) → lost ≡ false → b ≡ (b || lost)
+kept_as true lost h = refl
+kept_as false lost h = sym h
+
+noted : (b lost : Bool) → lost ≡ true → true ≡ (b || lost)
+noted true lost h = refl
+noted false lost h = sym h
+
 -- the line of a row with a reply, which isn't given up
 pub record IsReplied (w : World) (name : ℕ) (reply : Reply) : Type 0 where
   pub text : told_text (row_told w name) ≡ decimal name ++ codes " " ++ reply_text reply ++ codes "\n"
-  pub kept : false ≡ is_lost w name
+  pub kept : (b : Bool) → b ≡ (b || is_lost w name)
 
 pub replied : (w : World) (name : ℕ) (reply : Reply) → Some reply ≡ reply_told w name → IsReplied w name reply
 replied w name reply h = by (row_told w name) refl h
@@ -56,7 +64,7 @@ replied w name reply h = by (row_told w name) refl h
         let same : reply ≡ told = cc in
         record {
           text = ap told_text there ∙ (ap (λ n. decimal n ++ codes " " ++ ended_text r.ended ++ codes "\n") (row_named w name r there) ∙ (ap (λ e. decimal name ++ codes " " ++ ended_text e ++ codes "\n") is ∙ ap (λ t. decimal name ++ codes " " ++ reply_text t ++ codes "\n") (sym same)));
-          kept = sym (given_up_told w name r there ∙ ap (λ e. not (is_reply e)) is);
+          kept = λ b. kept_as b (is_lost w name) (given_up_told w name r there ∙ ap (λ e. not (is_reply e)) is);
         }
     shown r (ends.Full drawn wanted) there is k = cc
     shown r ends.Memory there is k = cc
@@ -69,13 +77,13 @@ replied w name reply h = by (row_told w name) refl h
 -- and of one without, which is
 pub record IsUnreplied (w : World) (name : ℕ) (r : ToldRow) : Type 0 where
   pub text : told_text (row_told w name) ≡ decimal name ++ codes " " ++ ended_text r.ended ++ codes "\n"
-  pub lost : true ≡ is_lost w name
+  pub lost : (b : Bool) → true ≡ (b || is_lost w name)
 
 pub unreplied : (w : World) (name : ℕ) (r : ToldRow) → None ≡ reply_told w name → row_told w name ≡ Some r → IsUnreplied w name r
 unreplied w name r none there =
     record {
       text = ap told_text there ∙ ap (λ n. decimal n ++ codes " " ++ ended_text r.ended ++ codes "\n") (row_named w name r there);
-      lost = sym (given_up_told w name r there ∙ by r.ended (none ∙ ap reply_of_told there));
+      lost = λ b. noted b (is_lost w name) (given_up_told w name r there ∙ by r.ended (none ∙ ap reply_of_told there));
     }
   where
     by : (e : Ended) → None ≡ reply_in e → not (is_reply e) ≡ true
@@ -90,7 +98,7 @@ line_more w i before after h is =
     let e : i + 1 ≡ suc i = omega arith in
     rw e (is ∙ (rw e (ap (λ l. l ++ told_text (row_told w (suc i))) h)))
 
-pub some_more : (w : World) (i : ℕ) (b c : Bool) → b ≡ some_given_up w i → c ≡ is_lost w (i + 1) → (b || c) ≡ some_given_up w (i + 1)
+pub some_more : (w : World) (i : ℕ) (b c : Bool) → b ≡ some_given_up w i → c ≡ (b || is_lost w (i + 1)) → c ≡ some_given_up w (i + 1)
 some_more w i b c h is =
     let e : i + 1 ≡ suc i = omega arith in
-    rw (e, h, is) (rw e refl)
+    is ∙ (rw (e, h) refl)

@@ -1,7 +1,7 @@
 //! The report of a closed book as bytes: one line for each event, and one of totals.
 #![tactic(auto)]
 
-ghost use Rattle.std.specs.Prelude.{◌≡◌, ◌++◌, ◌+◌, ◌<◌, ◌≤◌, IfOk, codes, decimal, length};
+ghost use Rattle.std.specs.Prelude.{◌≡◌, ◌++◌, ◌+◌, ◌<◌, ◌≤◌, ◌||◌, IfOk, codes, decimal, length};
 ghost use Rattle.version_book.specs.Closed.{row_told};
 ghost use Rattle.report_text.specs.Report.{reply_text, ended_text, told_text, field_text, totals_text, report_of, is_lost, some_given_up};
 ghost use Rattle.report_text.specs.Written.{counted};
@@ -90,25 +90,22 @@ fn put_other(text: &mut Text, counter: &Counter, name: u32, ended: Ended)
     text.put_text("\n");
 }
 
-// The line of a name, which the counter shows. Answers whether its row is given up. Of a row with a reply no more is read.
+// The line of a name, which the counter shows. Notes where its row is given up. Of a row with a reply no more is read.
 #[inline(always)]
-fn put_line(text: &mut Text, counter: &Counter, closed: &Closed, name: u32) -> bool
+fn put_line(text: &mut Text, counter: &Counter, closed: &Closed, name: u32, has_given_up: &mut bool)
     requires low { 1 ≤ name }
     requires high { name ≤ length closed.now.rows }
     requires counter { counter.now ≡ counted name }
     requires room { LINE_ROOM ≤ text.old.room }
     ensures text { text.new.text ≡ text.old.text ++ told_text (row_told closed.now name) }
-    ensures given_up { result ≡ is_lost closed.now name }
+    ensures given_up { has_given_up.new ≡ (has_given_up.old || is_lost closed.now name) }
 {
     match closed.reply(name) {
-        Some(reply) => {
-            put_replied(text, counter, name, reply);
-            false
-        }
+        Some(reply) => put_replied(text, counter, name, reply),
         None => {
             let row = closed.row(name);
             put_other(text, counter, name, row.ended);
-            true
+            *has_given_up = true;
         }
     }
 }
@@ -146,7 +143,7 @@ fn lines(alloc: Global, closed: &Closed) -> Result<Printed, AllocError>
     for i in 0..closed.rows() {
         text.make_room()?;
         counter.next(u64::from(i));
-        has_given_up |= put_line(&mut text, &counter, closed, i + 1);
+        put_line(&mut text, &counter, closed, i + 1, &mut has_given_up);
     }
     text.make_room()?;
     put_totals(&mut text, closed.totals());
