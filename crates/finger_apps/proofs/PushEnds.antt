@@ -60,7 +60,7 @@ use Rattle.finger_level.specs.Reads.{is_tree_rec, is_tree_value, is_at_rest}
 use Rattle.finger_level.specs.Keyed.{HasKeys, KeyedLevel, key_in}
 use Rattle.finger_level.specs.Pushes.{push_all, beside, IsPushed}
 use Rattle.finger_level.specs.Puts.{IsElement, IsLevel, LevelAsk, LevelPut, Follows}
-use Rattle.finger_tree.proofs.PushBuilds.{under_level}
+use Rattle.finger_level.proofs.Levels.{under_level}
 use Rattle.finger_apps.specs.Sequence.{pushes_at, is_end_op, push_places, places_for, shown_at}
 use Rattle.finger_apps.proofs.Bases.{BaseRoot, base_up, Given, end_looked, same_built}
 use Rattle.heap_store.proofs.Steps.{Quiet_refl}
@@ -111,6 +111,16 @@ few_places side e (levels.Deep (digits.Old p f) (middles.PushL t ns) r) h = absu
 few_places side e (levels.Deep (digits.Old p f) (middles.PushR t ns) r) h = absurd (not_rest r h)
   where
     not_rest : (r : _) → is_at_rest (levels.Deep (digits.Old p f) (middles.PushR t ns) r) ≡ true → ⊥
+    not_rest (digits.Old _ _) h = true≢false (sym h)
+    not_rest (digits.New _) h = true≢false (sym h)
+few_places side e (levels.Deep (digits.Old p f) (middles.Tail sd t d) r) h = absurd (not_rest r h)
+  where
+    not_rest : (r : _) → is_at_rest (levels.Deep (digits.Old p f) (middles.Tail sd t d) r) ≡ true → ⊥
+    not_rest (digits.Old _ _) h = true≢false (sym h)
+    not_rest (digits.New _) h = true≢false (sym h)
+few_places side e (levels.Deep (digits.Old p f) (middles.Shorter sd l t d) r) h = absurd (not_rest r h)
+  where
+    not_rest : (r : _) → is_at_rest (levels.Deep (digits.Old p f) (middles.Shorter sd l t d) r) ≡ true → ⊥
     not_rest (digits.Old _ _) h = true≢false (sym h)
     not_rest (digits.New _) h = true≢false (sym h)
 
@@ -241,6 +251,8 @@ pushable {a} {c} {job} {run} {next} {leaf} k side kind op stage level m whole si
     let parts : IsLevel w 0 next.next (made_of level) = rw m.made (record {
       elements = p.elements _ (el, tt) x.elements;
       trees = rw p.trees x.trees;
+      nodes = rw p.bare.0 tt;
+      inner = rw p.bare.1 tt;
       small = (let z = ap (λ md. length (items_of_made (means (recs w)) md)) m.made in omega (arith, z, count, b.size, k.few));
     }) in
     let places : places_of level ≡ made_places (kept_of k.given.shown) (push_all side (0 ∷ []) k.given.shown) = m.places ∙ rw (m.made, shown) (same_places side leaf.0 (kept_of (made_of m.before)) (made_of m.before)) in

@@ -184,7 +184,7 @@ digit_items rs g p (few.Two x y) weight = refl
 digit_items rs g p (few.Three x y z) weight = refl
 digit_items rs g p (few.Four x y z u) weight = refl
 
-digit_sort : (f : Few) (weight : Weight) → sort_of (digit_record f weight) ≡ sorts.Digit
+pub digit_sort : (f : Few) (weight : Weight) → sort_of (digit_record f weight) ≡ sorts.Digit
 digit_sort (few.One x) weight = refl
 digit_sort (few.Two x y) weight = refl
 digit_sort (few.Three x y z) weight = refl
@@ -201,6 +201,9 @@ pub all_of_level : (w : World) (d limit : ℕ) (es : List ℕ) → AllByRecursio
 all_of_level w d limit [] k = refl
 all_of_level w d limit (e ∷ es) k = and_from (is_of_level (recs w) e d) _ k.0.of_level (all_of_level w d limit es k.1)
 
+pub digit_means : {w : World} → IsLawful w → (p : ℕ) (f : Few) → IsDigitAt w p f → means (recs w) p ≡ flat_map (means (recs w)) (few_list f)
+digit_means {w} law p f at = means_is (recs w) (lawful_names law) p _ at.here ∙ digit_items (recs w) (means (recs w)) p f at.weight
+
 pub digit_shown : {w : World} → IsLawful w → (d limit p : ℕ) (f : Few) → AllByRecursion (IsElement w d limit) (few_list f) → IsDigitAt w p f → DigitWell w d p f
 digit_shown {w} law d limit p f k at =
     let level_here = level_is law p _ at.here d ∙ (digit_of_level (is_of_level (recs w)) f at.weight d ∙ all_of_level w d limit (few_list f) k) in
@@ -209,7 +212,7 @@ digit_shown {w} law d limit p f k at =
       sort = rw at.here (ap (λ s. same_sort s sorts.Digit) (digit_sort f at.weight));
       of_level = level_here;
       own = level_unique law p d _ at.here (digit_levelled _ (digit_sort f at.weight)) level_here;
-      items = means_is (recs w) (lawful_names law) p _ at.here ∙ digit_items (recs w) (means (recs w)) p f at.weight;
+      items = digit_means law p f at;
     }
 
 -- ---- trees
@@ -231,7 +234,7 @@ single_well {w} law d limit p high low e weight k size small key =
 pub tree_named : {w : World} → (d limit p t : ℕ) → limit ≤ p → IsTree w d limit t → IsNamedWell (recs w) p (t, sorts.Finger)
 tree_named {w} d limit p t high k = let a = at_true is_tree_rec (recs w t) k.sort in (omega (arith, k.under, high), a.0, a.1, sorts_agree (sort_of a.0) sorts.Finger a.2)
 
-digit_named : {w : World} → (d limit p q : ℕ) (f : Few) → q < limit → limit ≤ p → DigitWell w d q f → IsNamedWell (recs w) p (q, sorts.Digit)
+pub digit_named : {w : World} → (d limit p q : ℕ) (f : Few) → q < limit → limit ≤ p → DigitWell w d q f → IsNamedWell (recs w) p (q, sorts.Digit)
 digit_named {w} d limit p q f under high k = let a = at_true is_digit_rec (recs w q) k.sort in (omega (arith, under, high), a.0, a.1, sorts_agree (sort_of a.0) sorts.Digit a.2)
 
 pub deep_well : {w : World} → IsLawful w → (d limit p : ℕ) → limit ≤ p → p < 4194304 → (left middle right : Ref) (l r : Few) (weight : Weight) → DigitWell w d left.0 l → left.0 < limit → IsTree w (suc d) limit middle.0 → DigitWell w d right.0 r → right.0 < limit

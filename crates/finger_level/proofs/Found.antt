@@ -30,9 +30,9 @@ use Rattle.finger_level.specs.declared.few.Weight.{Weight}
 use Rattle.finger_level.specs.declared.level.Digit.TheVariants as digits
 use Rattle.finger_level.specs.declared.level.Middle.TheVariants as middles
 use Rattle.finger_level.specs.declared.level.Level.TheVariants as levels
-use Rattle.finger_level.specs.Few.{few_list, no_place, digit_record, few_at}
-use Rattle.finger_level.specs.Reads.{is_tree_rec, is_tree_value, IsDigitAt, LevelRead, IsWeight}
-use Rattle.finger_level.proofs.Records.{range_counts}
+use Rattle.finger_level.specs.Few.{few_list, no_place, digit_record, few_at, node_record, group_at}
+use Rattle.finger_level.specs.Reads.{is_tree_rec, is_tree_value, IsDigitAt, IsNodeAt, LevelRead, IsWeight}
+use Rattle.finger_level.proofs.Records.{Counts, range_counts, node_counts}
 
 -- ---- values
 
@@ -122,10 +122,25 @@ digit_elements w p f k = rw k.here (few_elements f k.weight)
 pub digit_grows : {a b : World} → Grows a b → (p : ℕ) (f : Few) → IsDigitAt a p f → IsDigitAt b p f
 digit_grows g p f k = record { weight = k.weight; here = g.records p _ k.here }
 
+-- ---- nodes
+
+group_record : (count : ℕ) (e1 e2 e3 : Ref) (z : ℕ) (k : Item) → in_range (Node count e1 e2 e3 z k) ≡ true → Node count e1 e2 e3 z k ≡ node_record (group_at count e1 e2 e3) (record { size = z; key = k })
+group_record count e1 e2 e3 z k h = by count (node_counts count e1 e2 e3 z k h) (range_counts (Node count e1 e2 e3 z k) h)
+  where
+    by : (n : ℕ) → Counts 2 3 n → (leb 2 n && (ltb 2 n || eqb e3.0 0)) ≡ true → Node n e1 e2 e3 z k ≡ node_record (group_at n e1 e2 e3) (record { size = z; key = k })
+    by zero c h = absurd (omega (arith, c.least))
+    by (suc zero) c h = absurd (omega (arith, c.least))
+    by (suc (suc zero)) c h = rw (zero_place e3 (and_parts true (eqb e3.0 0) h).1) refl
+    by (suc (suc (suc zero))) c h = refl
+    by (suc (suc (suc (suc n)))) c h = absurd (omega (arith, c.most))
+
+pub node_at : {w : World} → IsLawful w → (p : ℕ) (count : ℕ) (e1 e2 e3 : Ref) (z : ℕ) (k : Item) → recs w p ≡ Some (Node count e1 e2 e3 z k) → IsNodeAt w (group_at count e1 e2 e3) p
+node_at law p count e1 e2 e3 z k e = record { weight = record { size = z; key = k }; here = e ∙ ap Some (group_record count e1 e2 e3 z k (law.each p _ e).range) }
+
 -- ---- levels
 
 pub deep_read : {w : World} → IsLawful w → (q : ℕ) (left middle right : Ref) (z : ℕ) (k : Item) (l r : Few) → recs w q ≡ Some (Deep left middle right z k) → IsDigitAt w left.0 l → IsDigitAt w right.0 r → LevelRead w q (levels.Deep (digits.Old left l) (middles.Tree (Some middle)) (digits.Old right r))
-deep_read {w} law q left middle right z k l r e f g = record { under = (let n = lawful_names law q _ e in (n.0.0, n.1.1.0.0)); made = rw e (rw (digit_elements w left.0 l f, digit_elements w right.0 r g) refl); there = (f, g); rests = refl; keyed = λ j h. (let a = (keyed_of law j q _ e h).all in ((a.0, digit_keys law j left.0 l f a.0), (tt, (a.1.0, tt)), (a.1.1.0, digit_keys law j right.0 r g a.1.1.0))) }
+deep_read {w} law q left middle right z k l r e f g = record { under = (let n = lawful_names law q _ e in (n.0.0, n.1.1.0.0, tt)); made = rw e (rw (digit_elements w left.0 l f, digit_elements w right.0 r g) refl); there = (f, g, tt); rests = refl; keyed = λ j h. (let a = (keyed_of law j q _ e h).all in ((a.0, digit_keys law j left.0 l f a.0), (tt, (a.1.0, tt)), (a.1.1.0, digit_keys law j right.0 r g a.1.1.0))) }
 
 -- ---- elements
 

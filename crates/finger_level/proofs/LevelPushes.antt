@@ -5,7 +5,7 @@ use Rattle.std.proofs.lemmas.Bool.{true≢false}
 use Rattle.std.proofs.lemmas.List.{append_assoc, append-nil}
 use Rattle.std.proofs.lemmas.Grind.{flat_map-append}
 use Rattle.heap_store.specs.Completion.{Made, Middle, empty, one, deep, tree, push_left, push_right, node_left, node_right, push_one_left, push_one_right}
-use Rattle.finger_level.specs.Level.{all_of, if_there, middle_elements, middle_trees, middle_items, elements_in, trees_in, items_of_made}
+use Rattle.finger_level.specs.Level.{all_of, if_there, middle_elements, middle_trees, middle_items, elements_in, trees_in, nodes_in, inner_in, items_of_made}
 
 -- a middle onto which nodes can be pushed from a side
 abbrev pub is_open_left : Middle → Bool
@@ -57,6 +57,21 @@ trees_left e (deep (b ∷ []) m r) h = refl
 trees_left e (deep (b ∷ c ∷ []) m r) h = refl
 trees_left e (deep (b ∷ c ∷ d ∷ []) m r) h = refl
 trees_left e (deep (b ∷ c ∷ d ∷ f ∷ g ∷ gs) m r) h = refl
+
+-- such a middle names nothing of the levels further down
+pub bare_left : (t : Made) → open_left t ≡ true → (nodes_in t ≡ []) × (inner_in t ≡ [])
+bare_left empty h = (refl, refl)
+bare_left (one e) h = (refl, refl)
+bare_left (deep l (tree t) r) h = (refl, refl)
+bare_left (deep l (push_left t ns) r) h = (refl, refl)
+bare_left (deep l _ r) h = absurd (true≢false (sym h))
+
+pub bare_right : (t : Made) → open_right t ≡ true → (nodes_in t ≡ []) × (inner_in t ≡ [])
+bare_right empty h = (refl, refl)
+bare_right (one e) h = (refl, refl)
+bare_right (deep l (tree t) r) h = (refl, refl)
+bare_right (deep l (push_right t ns) r) h = (refl, refl)
+bare_right (deep l _ r) h = absurd (true≢false (sym h))
 
 -- ---- items
 

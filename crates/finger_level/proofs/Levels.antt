@@ -15,31 +15,33 @@ use Rattle.heap_store.specs.Completion as top
 use Rattle.heap_store.specs.Completion.{is_digit, on_digit, same_places, is_empty_tree}
 use Rattle.heap_store.specs.Growth.{Grows}
 use Rattle.heap_store.specs.Lawful.{IsLawful, height, is_of_level, may_wait}
-use Rattle.heap_store.specs.Hand.{IsInHand, contains}
+use Rattle.heap_store.specs.Hand.{IsInHand}
 use Rattle.heap_store.specs.View.{View, IsLawfulView, Fits, Put, purse}
 use Rattle.heap_store.proofs.GrowthLaws.{at_true, grows_trans, grows_refl}
 use Rattle.heap_store.proofs.LawfulLaws.{lawful_names}
 use Rattle.heap_store.proofs.MeaningLaws.{means_is, means_kept}
 use Rattle.heap_store.proofs.RecordLaws.{height_kept}
 use Rattle.heap_store.proofs.CompletionLaws.{is_middle_at_up}
-use Rattle.heap_store.proofs.Steps.{Filled-none, filling_start, filling_put}
+use Rattle.heap_store.proofs.Steps.{Filled-none, Quiet_refl, filling_start, filling_put}
 use Rattle.finger_level.specs.declared.few.Few.{Few}
 use Rattle.finger_level.specs.declared.few.Few.TheVariants as few
 use Rattle.finger_level.specs.declared.few.Weight.{Weight}
 use Rattle.finger_level.specs.declared.level.Digit.{Digit}
 use Rattle.finger_level.specs.declared.level.Digit.TheVariants as digits
 use Rattle.finger_level.specs.declared.level.Middle.{Middle}
+use Rattle.finger_level.specs.declared.level.Middle.TheVariants as middles
 use Rattle.finger_level.specs.declared.level.Level.{Level}
 use Rattle.finger_level.specs.declared.level.Level.TheVariants as levels
 use Rattle.finger_level.specs.declared.level.Family.{Family}
 use Rattle.finger_level.specs.declared.level.Family.TheVariants.{First, Later}
 use Rattle.finger_level.specs.Few.{few_list, digit_record}
 use Rattle.finger_level.specs.Level.{digit_few, digit_list, digit_places, middle_of, middle_places, middle_elements, middle_items, items_of_made, made_of}
-use Rattle.finger_level.specs.Puts.{units_shown, IsElement, IsTree, IsMiddle, IsLevel, PartAsk, DigitPut, IsNext, MiddleAsk, MiddlePut, LevelAsk, LevelPut, IsMadeAt, IsLow}
-use Rattle.finger_level.specs.Reads.{IsDigitAt, IsThere, IsUnder}
+use Rattle.finger_level.specs.Puts.{units_shown, IsElement, IsTree, IsMiddle, IsLevel, PartAsk, DigitPut, IsNext, MiddleAsk, MiddlePut, EndsAsk, EndsPut, LevelAsk, LevelPut, IsMadeAt, IsLow}
+use Rattle.finger_level.specs.Reads.{IsDigitAt, IsThere, IsUnder, IsUnderMiddle, AreUnder}
 use Rattle.finger_level.proofs.Records.{fits_finger}
 use Rattle.finger_level.proofs.Values.{level_is, value_height}
 use Rattle.finger_level.proofs.Found.{digit_grows}
+use Rattle.finger_level.proofs.Laying.{laid_put, laid_trans}
 use Rattle.finger_level.proofs.Builds.{elements_up, tree_up, items_up, DigitWell, digit_shown, deep_well, single_well}
 use Rattle.finger_level.proofs.Suspending.{places_self}
 use Rattle.heap_store.proofs.FillLaws.{Filled_trans}
@@ -89,15 +91,9 @@ deep_parts {a} {b} {w} law law1 law2 g h d limit more left middle right high l m
     let below : means (recs w) middle ≡ middle_items (means (recs a)) m = sym (means_kept (recs b) (recs w) (lawful_names law1) h.records middle (t.0, t.1)) ∙ items in
     record { first = one; last = two; below = tree_up law1 h (suc d) more more middle (omega arith) tree; items = rw (one.items, below, two.items) refl }
 
-pub deep_fits : {a b : World} {v : View} → IsLawful a → IsLawful b → IsLawfulView v → Grows a b → Grows b v.seen → (d limit p : ℕ) → limit ≤ p → contains v.hand.reserved p ≡ true → (left middle right : Ref) → left.0 < p → right.0 < p → (l : Few) (m : top.Middle) (r : Few) → IsLevel a d limit (top.deep (few_list l) m (few_list r)) → IsTree b (suc d) p middle.0 → means (recs b) middle.0 ≡ middle_items (means (recs a)) m
-    → IsDigitAt v.seen left.0 l → IsDigitAt v.seen right.0 r → (w : Weight) → w.size ≡ length (items_of_made (means (recs a)) (top.deep (few_list l) m (few_list r))) → w.key.0 < 18446744073709551616 → Fits v p (Deep left middle right w.size w.key)
-deep_fits {a} {b} {v} law law1 lv g h d limit p high held left middle right ul ur l m r k tree items fl fr w size key =
-    let x = deep_parts law law1 lv.world g h d limit p left.0 middle.0 right.0 high l m r k tree items fl fr in
-    fits_finger lv p held (Deep left middle right w.size w.key) d (deep_well lv.world d p p (omega arith) (place_fits lv p held) left middle right l r w x.first.well ul x.below x.last.well ur (size ∙ ap length (sym x.items)) (omega (arith, size, k.small)) key) refl (free v.seen p (Deep left middle right w.size w.key) (purse v) refl)
-
 -- ---- heights of levels
 
-digit_low : {a w : World} → IsLawful a → IsLawful w → Grows a w → (d limit q m : ℕ) (f : Few) → AllByRecursion (IsElement a d limit) (few_list f) → AllByRecursion (λ e. height (recs a) e ≤ m) (few_list f) → IsDigitAt w q f → height (recs w) q ≤ m
+pub digit_low : {a w : World} → IsLawful a → IsLawful w → Grows a w → (d limit q m : ℕ) (f : Few) → AllByRecursion (IsElement a d limit) (few_list f) → AllByRecursion (λ e. height (recs a) e ≤ m) (few_list f) → IsDigitAt w q f → height (recs w) q ≤ m
 digit_low {a} {w} law law2 g d limit q m f k h at = value_height law2 q m _ at.here (waits f) (names f (heights_up law g d limit m (few_list f) k h))
   where
     waits : (f : Few) → may_wait (digit_record f at.weight) ≡ false
@@ -112,7 +108,7 @@ digit_low {a} {w} law law2 g d limit q m f k h at = value_height law2 q m _ at.h
     names (few.Three x y z) k = (k.0, (k.1.0, (k.1.1.0, tt)))
     names (few.Four x y z u) k = (k.0, (k.1.0, (k.1.1.0, (k.1.1.1.0, tt))))
 
-weaken : (w : World) (o : ℕ) (es : List ℕ) → AllByRecursion (λ e. height (recs w) e < o) es → AllByRecursion (λ e. height (recs w) e ≤ o) es
+pub weaken : (w : World) (o : ℕ) (es : List ℕ) → AllByRecursion (λ e. height (recs w) e < o) es → AllByRecursion (λ e. height (recs w) e ≤ o) es
 weaken w o [] h = tt
 weaken w o (e ∷ es) h = (omega (arith, h.0), weaken w o es h.1)
 
@@ -136,16 +132,92 @@ deep_made {a} {b} {w} law law1 law2 g h d limit more p high left middle right l 
 
 -- ---- one part after another
 
-there_up : {a b : World} → Grows a b → (d : Digit) → IsThere a d → IsThere b d
+pub there_up : {a b : World} → Grows a b → (d : Digit) → IsThere a d → IsThere b d
 there_up g (digits.Old p f) k = digit_grows g p.0 f k
 there_up g (digits.New f) k = tt
 
-under_up : (limit more : ℕ) → limit ≤ more → (d : Digit) → IsUnder limit d → IsUnder more d
+pub under_up : (limit more : ℕ) → limit ≤ more → (d : Digit) → IsUnder limit d → IsUnder more d
 under_up limit more high (digits.Old p f) k = omega (arith, k, high)
 under_up limit more high (digits.New f) k = tt
 
-split_length : (xs ys zs : List ℕ) → length (xs ++ ys ++ zs) ≡ length xs + length ys + length zs
+pub under_middle_up : (limit more : ℕ) → limit ≤ more → (m : Middle) → IsUnderMiddle limit m → IsUnderMiddle more m
+under_middle_up limit more high (middles.Tail side t d) k = under_up limit more high d k
+under_middle_up limit more high (middles.Shorter side l t r) k = (under_up limit more high l k.0, under_up limit more high r k.1)
+under_middle_up limit more high _ k = tt
+
+pub under_level : (limit more : ℕ) → limit ≤ more → (l : Level) → AreUnder limit l → AreUnder more l
+under_level limit more high (levels.Deep l m r) k = (under_up limit more high l k.0, under_up limit more high r k.1, under_middle_up limit more high m k.2)
+under_level limit more high _ k = tt
+
+pub split_length : (xs ys zs : List ℕ) → length (xs ++ ys ++ zs) ≡ length xs + length ys + length zs
 split_length xs ys zs = length-append (xs ++ ys) zs ∙ ap (λ n. n + length zs) (length-append xs ys)
+
+-- what the put of a digit asks, in a later world
+part_ask : {a : World} {b : View} {y : Span} → IsLawful a → (d limit : ℕ) (part : Digit) → Grows a b.seen → limit ≤ y.next → IsInHand b.hand y → y.next + digit_places part ≤ y.end → AllByRecursion (IsElement a d limit) (digit_list part) → length (flat_map (means (recs a)) (digit_list part)) ≤ 2147483647 → PartAsk b y (digit_places part) (digit_list part)
+part_ask {a} {b} {y} law d limit part g high held room each small = record {
+  depth = d;
+  elements = record { each = elements_up law g d limit y.next high (digit_list part) each; small = rw (← items_up law g d limit (digit_list part) each) small };
+  held = held;
+  room = room;
+}
+
+-- ---- the ends of a deep tree
+
+module _ {v : View} {run : Span} (law : IsLawfulView v) (left : Digit) (below : Ref) (right : Digit) (whole : Weight) (k : EndsAsk v run left below.0 right whole.size) where
+  ends_lengths : whole.size ≡ length (flat_map (means (recs v.seen)) (digit_list left)) + length (means (recs v.seen) below.0) + length (flat_map (means (recs v.seen)) (digit_list right))
+  ends_lengths = k.counts ∙ split_length (flat_map (means (recs v.seen)) (digit_list left)) (means (recs v.seen) below.0) (flat_map (means (recs v.seen)) (digit_list right))
+
+  pub first_ask : PartAsk v run (digit_places left) (digit_list left)
+  first_ask = part_ask law.world k.depth run.next left (grows_refl v.seen) (omega arith) k.held (omega (arith, k.room)) k.first (omega (arith, ends_lengths, k.small))
+
+  module _ {c : View} {z : Span} {x : ℕ} (lp : DigitPut v c run z left x) where
+    pub last_ask : PartAsk c z (digit_places right) (digit_list right)
+    last_ask = part_ask law.world k.depth run.next right lp.laid.filled.grows (omega (arith, lp.laid.next)) lp.laid.held (omega (arith, lp.laid.next, lp.laid.end, k.room)) k.last (omega (arith, ends_lengths, k.small))
+
+    pub last_there : IsThere c.seen right
+    last_there = there_up lp.laid.filled.grows right k.there.1
+
+    pub last_under : IsUnder z.next right
+    last_under = under_up run.next z.next (omega (arith, lp.laid.next)) right k.under.1
+
+    module _ {d : View} {s : Span} {q : ℕ} (rp : DigitPut c d z s right q) where
+      ends_grow : Grows v.seen d.seen
+      ends_grow = grows_trans lp.laid.filled.grows rp.laid.filled.grows
+
+      pub ends_left : s.next < s.end
+      ends_left = omega (arith, lp.laid.next, lp.laid.end, rp.laid.next, rp.laid.end, k.room)
+
+      left_shown : IsDigitAt d.seen x (digit_few left)
+      left_shown = digit_grows rp.laid.filled.grows x (digit_few left) lp.shown
+
+      below_same : means (recs d.seen) below.0 ≡ means (recs v.seen) below.0
+      below_same = let t = at_true _ (recs v.seen below.0) k.tree.sort in sym (means_kept (recs v.seen) (recs d.seen) (lawful_names law.world) ends_grow.records below.0 (t.0, t.1))
+
+      pub ends_fits : IsLawfulView d → whole.key.0 < 18446744073709551616 → (rx rq : Ref) → rx.0 ≡ x → rq.0 ≡ q → Fits d s.next (Deep rx below rq whole.size whole.key)
+      ends_fits law2 key rx rq ex eq =
+          let held = rp.laid.held.each s.next (omega arith) ends_left in
+          let tree : IsTree d.seen (suc k.depth) s.next below.0 = tree_up law.world ends_grow (suc k.depth) run.next s.next below.0 (omega (arith, lp.laid.next, rp.laid.next)) k.tree in
+          let one = digit_part law.world law2.world ends_grow k.depth run.next rx.0 (digit_few left) k.first (rw ex left_shown) in
+          let two = digit_part law.world law2.world ends_grow k.depth run.next rq.0 (digit_few right) k.last (rw eq rp.shown) in
+          let items : means (recs d.seen) rx.0 ++ means (recs d.seen) below.0 ++ means (recs d.seen) rq.0 ≡ flat_map (means (recs v.seen)) (digit_list left) ++ means (recs v.seen) below.0 ++ flat_map (means (recs v.seen)) (digit_list right) = rw (one.items, two.items, below_same) refl in
+          fits_finger law2 s.next held (Deep rx below rq whole.size whole.key) k.depth (deep_well law2.world k.depth s.next s.next (omega arith) (place_fits law2 s.next held) rx below rq (digit_few left) (digit_few right) whole one.well (omega (arith, ex, lp.under, rp.laid.next)) tree two.well (omega (arith, eq, rp.under)) (k.counts ∙ ap length (sym items)) k.small key) refl (free d.seen s.next (Deep rx below rq whole.size whole.key) (purse d) refl)
+
+      pub ends_put : {n : View} {e : Span} {place : ℕ} → (rx rq : Ref) → rx.0 ≡ x → rq.0 ≡ q → Put d n s.next (Deep rx below rq whole.size whole.key) → e ≡ record s { next = s.next + 1 } → place ≡ s.next → EndsPut v n run e left below right whole place
+      ends_put {n} {e} {place} rx rq ex eq p after at =
+          let l = laid_trans (laid_trans lp.laid rp.laid) (laid_put rp.laid.held (Quiet_refl d) p after refl refl) in
+          let next : e.next ≡ s.next + 1 = ap (λ (z : Span). z.next) after in
+          let count : digit_places left + digit_places right + 1 ≡ suc (digit_places left + digit_places right) = omega arith in
+          rw at (record {
+            laid = rw count at l;
+            under = omega (arith, next);
+            first = rx;
+            last = rq;
+            here = p.here;
+            first_shown = digit_grows p.grows rx.0 (digit_few left) (rw ex left_shown);
+            last_shown = digit_grows p.grows rq.0 (digit_few right) (rw eq rp.shown);
+          })
+
+-- ---- a deep level
 
 module _ {v : View} {run : Span} (law : IsLawfulView v) (left : Digit) (m : Middle) (right : Digit) (family : Family) (whole : Weight) (k : LevelAsk v run (levels.Deep left m right) family whole) where
   left_each : AllByRecursion (IsElement v.seen k.depth run.next) (digit_list left)
@@ -160,8 +232,14 @@ module _ {v : View} {run : Span} (law : IsLawfulView v) (left : Digit) (m : Midd
   lengths : length (items_of_made (means (recs v.seen)) (made_of (levels.Deep left m right))) ≡ length (flat_map (means (recs v.seen)) (digit_list left)) + length (middle_items (means (recs v.seen)) (middle_of m)) + length (flat_map (means (recs v.seen)) (digit_list right))
   lengths = split_length (flat_map (means (recs v.seen)) (digit_list left)) (middle_items (means (recs v.seen)) (middle_of m)) (flat_map (means (recs v.seen)) (digit_list right))
 
-  own_middle : IsMiddle v.seen k.depth run.next (middle_of m)
-  own_middle = record { elements = all_left _ (middle_elements (middle_of m)) (digit_list right) rest_each; trees = k.parts.trees; small = omega (arith, lengths, k.parts.small) }
+  level_middle : (j : ℕ) → IsLevel v.seen j run.next (made_of (levels.Deep left m right)) → IsMiddle v.seen j run.next (middle_of m)
+  level_middle j kj = record {
+    elements = all_left _ (middle_elements (middle_of m)) (digit_list right) (all_right _ (digit_list left) (middle_elements (middle_of m) ++ digit_list right) kj.elements);
+    trees = kj.trees;
+    nodes = kj.nodes;
+    inner = kj.inner;
+    small = omega (arith, lengths, kj.small);
+  }
 
   -- what the middle shows is shown of the whole
   middle_credits : (f : Family) → units_shown f whole.size ≤ v.hand.credits → units_shown f (length (middle_items (means (recs v.seen)) (middle_of m))) ≤ v.hand.credits
@@ -175,95 +253,52 @@ module _ {v : View} {run : Span} (law : IsLawfulView v) (left : Digit) (m : Midd
   pub middle_ask : MiddleAsk v run m family
   middle_ask = record {
     depth = k.depth;
-    middle = own_middle;
+    middle = level_middle k.depth k.parts;
     follows = k.follows;
     credits = middle_credits family k.credits;
+    there = k.there.2;
+    under = k.under.2;
     held = k.held;
     above = above_fixed law run.next (k.held.each run.next (omega arith) (omega (arith, k.room)));
     room = omega (arith, k.room);
   }
 
-  part_ask : {b : View} {y : Span} (part : Digit) → Grows v.seen b.seen → run.next ≤ y.next → IsInHand b.hand y → y.next + digit_places part ≤ y.end → AllByRecursion (IsElement v.seen k.depth run.next) (digit_list part) → length (flat_map (means (recs v.seen)) (digit_list part)) ≤ 2147483647 → PartAsk b y (digit_places part) (digit_list part)
-  part_ask {b} {y} part g high held room each small = record {
-    depth = k.depth;
-    elements = record { each = elements_up law.world g k.depth run.next y.next high (digit_list part) each; small = rw (← items_up law.world g k.depth run.next (digit_list part) each) small };
-    held = held;
-    room = room;
-  }
+  module _ {b : View} {y : Span} (below : Ref) (mp : MiddlePut v b run y family (middle_places m) (middle_of m) below.0) where
+    pub ends_ask : EndsAsk b y left below.0 right whole.size
+    ends_ask =
+        let g = mp.filled.grows in
+        let high : run.next ≤ y.next = omega (arith, mp.next) in
+        let items : flat_map (means (recs b.seen)) (digit_list left) ++ means (recs b.seen) below.0 ++ flat_map (means (recs b.seen)) (digit_list right) ≡ items_of_made (means (recs v.seen)) (made_of (levels.Deep left m right)) = rw (← items_up law.world g k.depth run.next (digit_list left) left_each, mp.items, ← items_up law.world g k.depth run.next (digit_list right) right_each) refl in
+        record {
+          depth = k.depth;
+          first = elements_up law.world g k.depth run.next y.next high (digit_list left) left_each;
+          tree = mp.tree k.depth (level_middle k.depth k.parts);
+          last = elements_up law.world g k.depth run.next y.next high (digit_list right) right_each;
+          there = (there_up g left k.there.0, there_up g right k.there.1);
+          under = (under_up run.next y.next high left k.under.0, under_up run.next y.next high right k.under.1);
+          counts = k.counts ∙ ap length (sym items);
+          small = omega (arith, k.counts, k.parts.small);
+          held = mp.held;
+          room = omega (arith, mp.next, mp.end, k.room);
+        }
 
-  module _ {b : View} {y : Span} {below : ℕ} (mp : MiddlePut v b run y family (middle_places m) (middle_of m) below) where
-    pub left_ask : PartAsk b y (digit_places left) (digit_list left)
-    left_ask = part_ask left mp.filled.grows (omega (arith, mp.next)) mp.held (omega (arith, mp.next, mp.end, k.room)) left_each (omega (arith, lengths, k.parts.small))
-
-    pub left_there : IsThere b.seen left
-    left_there = there_up mp.filled.grows left k.there.0
-
-    pub left_under : IsUnder y.next left
-    left_under = under_up run.next y.next (omega (arith, mp.next)) left k.under.0
-
-    module _ {c : View} {z : Span} {x : ℕ} (lp : DigitPut b c y z left x) where
-      both_grow : Grows v.seen c.seen
-      both_grow = grows_trans mp.filled.grows lp.laid.filled.grows
-
-      pub right_ask : PartAsk c z (digit_places right) (digit_list right)
-      right_ask = part_ask right both_grow (omega (arith, mp.next, lp.laid.next)) lp.laid.held (omega (arith, mp.next, mp.end, lp.laid.next, lp.laid.end, k.room)) right_each (omega (arith, lengths, k.parts.small))
-
-      pub right_there : IsThere c.seen right
-      right_there = there_up both_grow right k.there.1
-
-      pub right_under : IsUnder z.next right
-      right_under = under_up run.next z.next (omega (arith, mp.next, lp.laid.next)) right k.under.1
-
-      module _ (law1 : IsLawful b.seen) {d : View} {s : Span} {q : ℕ} (rp : DigitPut c d z s right q) where
-        pub later_grow : Grows b.seen d.seen
-        later_grow = grows_trans lp.laid.filled.grows rp.laid.filled.grows
-
-        pub left_free : s.next < s.end
-        left_free = omega (arith, mp.next, mp.end, lp.laid.next, lp.laid.end, rp.laid.next, rp.laid.end, k.room)
-
-        in_hand : contains d.hand.reserved s.next ≡ true
-        in_hand = rp.laid.held.each s.next (omega arith) left_free
-
-        tree : IsTree b.seen (suc k.depth) s.next below
-        tree = tree_up law1 (grows_refl b.seen) (suc k.depth) y.next s.next below (omega (arith, lp.laid.next, rp.laid.next)) (mp.tree k.depth own_middle)
-
-        left_shown : IsDigitAt d.seen x (digit_few left)
-        left_shown = digit_grows rp.laid.filled.grows x (digit_few left) lp.shown
-
-        pub put_fits : IsLawfulView d → whole.key.0 < 18446744073709551616 → (rx rb rq : Ref) → rx.0 ≡ x → rb.0 ≡ below → rq.0 ≡ q → Fits d s.next (Deep rx rb rq whole.size whole.key)
-        put_fits law2 key rx rb rq ex eb eq =
-            deep_fits law.world law1 law2 mp.filled.grows later_grow k.depth run.next s.next (omega (arith, mp.next, lp.laid.next, rp.laid.next)) in_hand rx rb rq (omega (arith, ex, lp.under, rp.laid.next)) (omega (arith, eq, rp.under)) (digit_few left) (middle_of m) (digit_few right) k.parts
-            (rw eb tree) (rw eb mp.items) (rw ex left_shown) (rw eq rp.shown) whole k.counts key
-
-        pub put_made : {n : View} {e : Span} {place : ℕ} → IsLawful n.seen → (rx rb rq : Ref) → rx.0 ≡ x → rb.0 ≡ below → rq.0 ≡ q → Put d n s.next (Deep rx rb rq whole.size whole.key) → e ≡ record s { next = s.next + 1 } → place ≡ s.next → LevelPut v n run e family (levels.Deep left m right) place
-        put_made {n} {e} {place} law2 rx rb rq ex eb eq p after at =
-            let f1 = Filled_trans (omega (arith, mp.next)) (omega (arith, lp.laid.next)) mp.filled lp.laid.filled in
-            let f2 = Filled_trans (omega (arith, mp.next, lp.laid.next)) (omega (arith, rp.laid.next)) f1 rp.laid.filled in
-            let f3 = filling_put (filling_start d s rp.laid.held) p after refl in
-            let next : e.next ≡ s.next + 1 = ap (λ (z : Span). z.next) after in
-            let gw = grows_trans later_grow p.grows in
-            let fl : IsDigitAt n.seen rx.0 (digit_few left) = digit_grows p.grows rx.0 (digit_few left) (rw ex left_shown) in
-            let fr : IsDigitAt n.seen rq.0 (digit_few right) = digit_grows p.grows rq.0 (digit_few right) (rw eq rp.shown) in
-            let high : run.next ≤ s.next = omega (arith, mp.next, lp.laid.next, rp.laid.next) in
-            let parts : (j : ℕ) → IsLevel v.seen j run.next (made_of (levels.Deep left m right)) → IsTree b.seen (suc j) s.next rb.0 → DeepParts v.seen n.seen j s.next rx.0 rb.0 rq.0 (digit_few left) (middle_of m) (digit_few right) = λ j kj tj. deep_parts law.world law1 law2 mp.filled.grows gw j run.next s.next rx.0 rb.0 rq.0 high (digit_few left) (middle_of m) (digit_few right) kj tj (rw eb mp.items) fl fr in
-            let x0 = parts k.depth k.parts (rw eb tree) in
-            rw at (record {
-              filled = Filled_trans (omega (arith, high)) (omega (arith, next)) f2 f3.filled;
-              next = omega (arith, next, mp.next, lp.laid.next, rp.laid.next);
-              end = f3.same_end ∙ (rp.laid.end ∙ (lp.laid.end ∙ mp.end));
-              value = rw p.here refl;
-              of_level = λ j kj. (let t = tree_up law1 (grows_refl b.seen) (suc j) y.next s.next rb.0 (omega (arith, lp.laid.next, rp.laid.next)) (rw eb (mp.tree j (level_middle j kj))) in let xj = parts j kj t in level_is law2 s.next _ p.here j ∙ and_from _ (is_of_level (recs n.seen) rq.0 j) (and_from (is_of_level (recs n.seen) rx.0 j) (is_of_level (recs n.seen) rb.0 (suc j)) xj.first.well.of_level xj.below.of_level) xj.last.well.of_level);
-              items = means_is (recs n.seen) (lawful_names law2) s.next _ p.here ∙ x0.items;
-              made = deep_made law.world law1 law2 mp.filled.grows gw k.depth run.next s.next s.next high rx rb rq (digit_few left) (middle_of m) (digit_few right) k.parts (rw eb tree) (rw eb mp.items) fl fr whole.size whole.key p.here family (rw eb mp.made) k.low;
-              credits = (let more = middle_spends family in omega (arith, mp.credits, lp.laid.credits, rp.laid.credits, f3.credits, more));
-            })
-          where
-            level_middle : (j : ℕ) → IsLevel v.seen j run.next (made_of (levels.Deep left m right)) → IsMiddle v.seen j run.next (middle_of m)
-            level_middle j kj = record {
-              elements = all_left _ (middle_elements (middle_of m)) (digit_list right) (all_right _ (digit_list left) (middle_elements (middle_of m) ++ digit_list right) kj.elements);
-              trees = kj.trees;
-              small = omega (arith, lengths, kj.small);
-            }
+    pub put_made : {n : View} {e : Span} {place : ℕ} → IsLawful b.seen → IsLawful n.seen → EndsPut b n y e left below right whole place → LevelPut v n run e family (levels.Deep left m right) place
+    put_made {n} {e} {place} law1 law2 p =
+        let high : run.next ≤ e.next = omega (arith, mp.next, p.laid.next) in
+        let h = p.laid.filled.grows in
+        let tree : (j : ℕ) → IsLevel v.seen j run.next (made_of (levels.Deep left m right)) → IsTree b.seen (suc j) e.next below.0 = λ j kj. tree_up law1 (grows_refl b.seen) (suc j) y.next e.next below.0 (omega (arith, p.laid.next)) (mp.tree j (level_middle j kj)) in
+        let parts : (j : ℕ) → IsLevel v.seen j run.next (made_of (levels.Deep left m right)) → DeepParts v.seen n.seen j e.next p.first.0 below.0 p.last.0 (digit_few left) (middle_of m) (digit_few right) = λ j kj. deep_parts law.world law1 law2 mp.filled.grows h j run.next e.next p.first.0 below.0 p.last.0 high (digit_few left) (middle_of m) (digit_few right) kj (tree j kj) mp.items p.first_shown p.last_shown in
+        let x0 = parts k.depth k.parts in
+        record {
+          filled = Filled_trans (omega (arith, mp.next)) (omega (arith, p.laid.next)) mp.filled p.laid.filled;
+          next = omega (arith, mp.next, p.laid.next);
+          end = p.laid.end ∙ mp.end;
+          value = rw p.here refl;
+          of_level = λ j kj. (let xj = parts j kj in level_is law2 place _ p.here j ∙ and_from _ (is_of_level (recs n.seen) p.last.0 j) (and_from (is_of_level (recs n.seen) p.first.0 j) (is_of_level (recs n.seen) below.0 (suc j)) xj.first.well.of_level xj.below.of_level) xj.last.well.of_level);
+          items = means_is (recs n.seen) (lawful_names law2) place _ p.here ∙ x0.items;
+          made = deep_made law.world law1 law2 mp.filled.grows h k.depth run.next e.next place high p.first below p.last (digit_few left) (middle_of m) (digit_few right) k.parts (tree k.depth k.parts) mp.items p.first_shown p.last_shown whole.size whole.key p.here family mp.made k.low;
+          credits = (let more = middle_spends family in omega (arith, mp.credits, p.laid.credits, more));
+        }
 
 -- ---- no element, and one
 

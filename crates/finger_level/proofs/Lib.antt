@@ -15,3 +15,7 @@ pub mod Tops
 pub mod Funded
 pub mod Keys
 pub mod Keying
+pub mod Tails
+pub mod TailPuts
+pub mod Draws
+pub mod Popping

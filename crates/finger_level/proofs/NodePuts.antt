@@ -30,8 +30,8 @@ use Rattle.finger_level.specs.Few.{group_list, node_record}
 use Rattle.finger_level.specs.declared.level.Side.{Side}
 use Rattle.finger_level.specs.declared.level.Side.TheVariants as sides
 use Rattle.finger_level.specs.Level.{all_of, nodes_list, nodes_places, tree_of, if_there, middle_elements, middle_trees, middle_items}
-use Rattle.finger_level.specs.Reads.{is_element, is_tree_rec}
-use Rattle.finger_level.specs.Puts.{IsElement, AreElements, IsTree, push_middle, tree_at, PartAsk, NodePut, IsNodeAt, AreNodesAt, NodesPut, Laid}
+use Rattle.finger_level.specs.Reads.{is_element, is_tree_rec, IsNodeAt}
+use Rattle.finger_level.specs.Puts.{IsElement, AreElements, IsTree, push_middle, tree_at, PartAsk, NodePut, AreNodesAt, NodesPut, Laid}
 use Rattle.finger_level.specs.Pushes.{beside, pushed_list}
 use Rattle.finger_level.proofs.Values.{level_is, value_height}
 use Rattle.finger_level.proofs.Builds.{elements_up, element_there, tree_up, items_up, all_of_level}

@@ -130,7 +130,7 @@ push_first {v} {d} {run} law0 law g p high held side t ns es family k under at o
 pub later_up : {a b : World} → IsLawful a → IsLawful b → Grows a b → (s d : ℕ) (r : Rec) → recs a s ≡ Some r → level_from (level (recs a)) r ≡ d → level_from (level (recs b)) r ≡ d
 later_up {a} {b} law law2 g s d r e own = sym (own_level_is law2 s r (g.records s r e)) ∙ (sym (own_level_kept (recs a) (recs b) (lawful_names law) g.records s (r, e)) ∙ (own_level_is law s r e ∙ own))
 
-shift : (w : World) (o : ℕ) (es : List ℕ) → AllByRecursion (λ e. height (recs w) e < o) es → AllByRecursion (λ e. height (recs w) e ≤ o - 1) es
+pub shift : (w : World) (o : ℕ) (es : List ℕ) → AllByRecursion (λ e. height (recs w) e < o) es → AllByRecursion (λ e. height (recs w) e ≤ o - 1) es
 shift w o [] h = tt
 shift w o (e ∷ es) h = (omega (arith, h.0), shift w o es h.1)
 

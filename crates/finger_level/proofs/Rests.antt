@@ -19,10 +19,14 @@ pub rest_middle : (l r : Digit) (m : Middle) → is_at_rest (levels.Deep l m r) 
 rest_middle (digits.Old _ _) (digits.Old _ _) (middles.Tree t) h = refl
 rest_middle (digits.Old _ _) (digits.Old _ _) (middles.PushL _ _) h = absurd (true≢false (sym h))
 rest_middle (digits.Old _ _) (digits.Old _ _) (middles.PushR _ _) h = absurd (true≢false (sym h))
+rest_middle (digits.Old _ _) (digits.Old _ _) (middles.Tail _ _ _) h = absurd (true≢false (sym h))
+rest_middle (digits.Old _ _) (digits.Old _ _) (middles.Shorter _ _ _ _) h = absurd (true≢false (sym h))
 rest_middle (digits.New _) r m h = absurd (true≢false (sym h))
 rest_middle (digits.Old _ _) (digits.New _) (middles.Tree t) h = absurd (true≢false (sym h))
 rest_middle (digits.Old _ _) (digits.New _) (middles.PushL _ _) h = absurd (true≢false (sym h))
 rest_middle (digits.Old _ _) (digits.New _) (middles.PushR _ _) h = absurd (true≢false (sym h))
+rest_middle (digits.Old _ _) (digits.New _) (middles.Tail _ _ _) h = absurd (true≢false (sym h))
+rest_middle (digits.Old _ _) (digits.New _) (middles.Shorter _ _ _ _) h = absurd (true≢false (sym h))
 
 tree_takes : (m : Middle) → is_tree_middle m ≡ true → (middle_takes_left m ≡ true) × (middle_takes_right m ≡ true)
 tree_takes (middles.Tree t) h = (refl, refl)
@@ -41,6 +45,8 @@ rest_kept (levels.Deep (digits.New _) m r) h = absurd (true≢false (sym h))
 rest_kept (levels.Deep (digits.Old _ _) (middles.Tree _) (digits.New _)) h = absurd (true≢false (sym h))
 rest_kept (levels.Deep (digits.Old _ _) (middles.PushL _ _) (digits.New _)) h = absurd (true≢false (sym h))
 rest_kept (levels.Deep (digits.Old _ _) (middles.PushR _ _) (digits.New _)) h = absurd (true≢false (sym h))
+rest_kept (levels.Deep (digits.Old _ _) (middles.Tail _ _ _) (digits.New _)) h = absurd (true≢false (sym h))
+rest_kept (levels.Deep (digits.Old _ _) (middles.Shorter _ _ _ _) (digits.New _)) h = absurd (true≢false (sym h))
 
 pub pushed_from : {w : World} (side : Side) (es : Pushed) (q : ℕ) (before level : Level) (kept : ℕ) → LevelRead w q before → made_of level ≡ push_all side (pushed_list es) (made_of before) → kept ≡ kept_of (made_of before) → places_of level ≡ made_places kept (made_of level) → (AreThere w before → AreThere w level) → ((limit : ℕ) → AreUnder limit before → AreUnder limit level) → ((k : Bool) → AreKeyed k w (pushed_list es) → KeyedLevel k w before → KeyedLevel k w level) → IsPushed w side es q level
 pushed_from side es q before level kept read made k places stands under keyed = record { before = before; read = read; made = made; places = rw k at places; there = stands read.there; under = under; keyed = λ j h ks. keyed j ks (read.keyed j h) }

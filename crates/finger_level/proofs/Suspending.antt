@@ -141,7 +141,7 @@ module _ {w : World} (law : IsLawful w) (d limit p : ℕ) (high : limit ≤ p) (
 
 -- ---- the next suspension of a family
 
-place_self : (w : World) (p : ℕ) → same_place w p p ≡ true
+pub place_self : (w : World) (p : ℕ) → same_place w p p ≡ true
 place_self w p = or_left (eqb p p) _ (eq-eqb p p refl)
 
 pub places_self : (w : World) (ps : List ℕ) → same_places w ps ps ≡ true

@@ -25,13 +25,13 @@ use Rattle.finger_level.specs.declared.level.Side.{Side}
 use Rattle.finger_level.specs.declared.level.Side.TheVariants as sides
 use Rattle.finger_level.specs.declared.level.Pushed.{Pushed}
 use Rattle.finger_level.specs.declared.level.Pushed.TheVariants as pushes
-use Rattle.finger_level.specs.Level.{elements_in, trees_in, items_of_made, made_of}
+use Rattle.finger_level.specs.Level.{elements_in, trees_in, nodes_in, inner_in, items_of_made, made_of}
 use Rattle.finger_level.specs.Reads.{is_at_rest}
 use Rattle.finger_level.specs.Puts.{IsElement, IsTree}
 use Rattle.finger_level.specs.Pushes.{pushed_list, push_all, beside}
 use Rattle.heap_store.proofs.Alls.{All-append}
 use Rattle.finger_level.proofs.Values.{level_is, names_height}
-use Rattle.finger_level.proofs.LevelPushes.{open_left, open_right, elements_left, elements_right, trees_left, trees_right, items_left, items_right, open_after_left, open_after_right}
+use Rattle.finger_level.proofs.LevelPushes.{open_left, open_right, elements_left, elements_right, trees_left, trees_right, items_left, items_right, bare_left, bare_right, open_after_left, open_after_right}
 
 -- ---- elements of a digit
 
@@ -115,20 +115,26 @@ rest_open (levels.One e) h = (refl, refl)
 rest_open (levels.Deep (digits.Old _ _) (middles.Tree t) (digits.Old _ _)) h = (refl, refl)
 rest_open (levels.Deep (digits.Old _ _) (middles.PushL _ _) (digits.Old _ _)) h = absurd (true≢false (sym h))
 rest_open (levels.Deep (digits.Old _ _) (middles.PushR _ _) (digits.Old _ _)) h = absurd (true≢false (sym h))
+rest_open (levels.Deep (digits.Old _ _) (middles.Tail _ _ _) (digits.Old _ _)) h = absurd (true≢false (sym h))
+rest_open (levels.Deep (digits.Old _ _) (middles.Shorter _ _ _ _) (digits.Old _ _)) h = absurd (true≢false (sym h))
 rest_open (levels.Deep (digits.New _) m r) h = absurd (true≢false (sym h))
 rest_open (levels.Deep (digits.Old _ _) (middles.Tree _) (digits.New _)) h = absurd (true≢false (sym h))
 rest_open (levels.Deep (digits.Old _ _) (middles.PushL _ _) (digits.New _)) h = absurd (true≢false (sym h))
 rest_open (levels.Deep (digits.Old _ _) (middles.PushR _ _) (digits.New _)) h = absurd (true≢false (sym h))
+rest_open (levels.Deep (digits.Old _ _) (middles.Tail _ _ _) (digits.New _)) h = absurd (true≢false (sym h))
+rest_open (levels.Deep (digits.Old _ _) (middles.Shorter _ _ _ _) (digits.New _)) h = absurd (true≢false (sym h))
 
 pub record PushAll (side : Side) (es : Pushed) (made : Made) : Type 1 where
   pub elements : (P : ℕ → Type 0) → AllByRecursion P (pushed_list es) → AllByRecursion P (elements_in made) → AllByRecursion P (elements_in (push_all side (pushed_list es) made))
   pub trees : trees_in (push_all side (pushed_list es) made) ≡ trees_in made
+  pub bare : (nodes_in (push_all side (pushed_list es) made) ≡ []) × (inner_in (push_all side (pushed_list es) made) ≡ [])
   pub items : (f : ℕ → List ℕ) → items_of_made f (push_all side (pushed_list es) made) ≡ beside side (flat_map f (pushed_list es)) (items_of_made f made)
 
 pub push_all_well : (side : Side) (es : Pushed) (made : Made) → (open_left made ≡ true) × (open_right made ≡ true) → PushAll side es made
 push_all_well sides.Left (pushes.One e) made o = record {
   elements = λ P h k. rw (elements_left e.0 made o.0) (h.0, k);
   trees = trees_left e.0 made o.0;
+  bare = bare_left (top.push_one_left e.0 made) (open_after_left e.0 made o.0);
   items = λ f. items_left f e.0 made o.0 ∙ ap (λ xs. xs ++ items_of_made f made) (sym (append-nil (f e.0)));
 }
 push_all_well sides.Left (pushes.Two e g) made o =
@@ -136,11 +142,13 @@ push_all_well sides.Left (pushes.Two e g) made o =
     record {
       elements = λ P h k. rw (elements_left e.0 (top.push_one_left g.0 made) after, elements_left g.0 made o.0) (h.0, (h.1.0, k));
       trees = trees_left e.0 (top.push_one_left g.0 made) after ∙ trees_left g.0 made o.0;
+      bare = bare_left (top.push_one_left e.0 (top.push_one_left g.0 made)) (open_after_left e.0 (top.push_one_left g.0 made) after);
       items = λ f. rw (items_left f e.0 (top.push_one_left g.0 made) after, items_left f g.0 made o.0) (rw (append-nil (f g.0)) (sym (append_assoc (f e.0) (f g.0) (items_of_made f made))));
     }
 push_all_well sides.Right (pushes.One e) made o = record {
   elements = λ P h k. rw (elements_right made e.0 o.1) (All-append P (elements_in made) (e.0 ∷ []) k h);
   trees = trees_right made e.0 o.1;
+  bare = bare_right (top.push_one_right made e.0) (open_after_right made e.0 o.1);
   items = λ f. items_right f made e.0 o.1 ∙ ap (λ xs. items_of_made f made ++ xs) (sym (append-nil (f e.0)));
 }
 push_all_well sides.Right (pushes.Two e g) made o =
@@ -148,5 +156,6 @@ push_all_well sides.Right (pushes.Two e g) made o =
     record {
       elements = λ P h k. rw (elements_right (top.push_one_right made e.0) g.0 after, elements_right made e.0 o.1) (All-append P (elements_in made ++ e.0 ∷ []) (g.0 ∷ []) (All-append P (elements_in made) (e.0 ∷ []) k (h.0, tt)) (h.1.0, tt));
       trees = trees_right (top.push_one_right made e.0) g.0 after ∙ trees_right made e.0 o.1;
+      bare = bare_right (top.push_one_right (top.push_one_right made e.0) g.0) (open_after_right (top.push_one_right made e.0) g.0 after);
       items = λ f. rw (items_right f (top.push_one_right made e.0) g.0 after, items_right f made e.0 o.1) (rw (append-nil (f g.0)) (append_assoc (items_of_made f made) (f e.0) (f g.0)));
     }

@@ -1,5 +1,5 @@
 -- Values of finger trees, their heights and their levels.
-use Rattle.std.proofs.Common.{◌≡◌, ℕ, zero, suc, ◌^◌, ◌<◌, ◌≤◌, ltb, refl, sym, ap, ◌∙◌, arith, max, Bool, true, false, Some, List, [], ◌∷◌, length, map, take}
+use Rattle.std.proofs.Common.{◌≡◌, ℕ, zero, suc, ◌^◌, ◌<◌, ◌≤◌, refl, sym, ap, ◌∙◌, arith, max, Bool, true, false, Some, List, [], ◌∷◌, length, map, take}
 use Rattle.std.specs.Prelude.{fold}
 use Rattle.std.specs.List.{AllByRecursion, list_all}
 use mathlib.Core.Path.{fun_ext}

@@ -1,5 +1,5 @@
 -- The elements of digits and nodes, and their records.
-use Rattle.std.specs.Prelude.{ℕ, eqb, cond, List, [], ◌∷◌}
+use Rattle.std.specs.Prelude.{ℕ, eqb, cond, Option, Some, None, List, [], ◌∷◌}
 use Rattle.lazy_rec.specs.declared.places.Ref.{Ref}
 use Rattle.lazy_rec.specs.declared.records.Rec.{Rec}
 use Rattle.lazy_rec.specs.declared.records.Rec.TheVariants.{Node, Digit}
@@ -39,3 +39,17 @@ node_record (group.Three a b c) w = Node 3 a b c w.size w.key
 -- the elements of a digit's record
 abbrev pub few_at : ℕ → Ref → Ref → Ref → Ref → Few
 few_at count e1 e2 e3 e4 = cond (eqb count 1) (few.One e1) (cond (eqb count 2) (few.Two e1 e2) (cond (eqb count 3) (few.Three e1 e2 e3) (few.Four e1 e2 e3 e4)))
+
+-- and of a node's
+abbrev pub group_at : ℕ → Ref → Ref → Ref → Group
+group_at count e1 e2 e3 = cond (eqb count 2) (group.Two e1 e2) (group.Three e1 e2 e3)
+
+-- the elements of a node, as those of a digit
+abbrev pub few_of_group : Group → Few
+few_of_group (group.Two a b) = few.Two a b
+few_of_group (group.Three a b c) = few.Three a b c
+
+-- what may be left of a digit
+abbrev pub rest_list : Option Few → List ℕ
+rest_list None = []
+rest_list (Some f) = few_list f

@@ -8,6 +8,7 @@ use Rattle.heap_store.specs.Lawful.{has_keys, key_for}
 use Rattle.finger_level.specs.declared.level.Digit.{Digit}
 use Rattle.finger_level.specs.declared.level.Digit.TheVariants as digits
 use Rattle.finger_level.specs.declared.level.Middle.{Middle}
+use Rattle.finger_level.specs.declared.level.Middle.TheVariants as middles
 use Rattle.finger_level.specs.declared.level.Level.{Level}
 use Rattle.finger_level.specs.declared.level.Level.TheVariants as levels
 use Rattle.finger_level.specs.Few.{few_list}
@@ -35,6 +36,8 @@ KeyedDigit keyed w (digits.Old p few) = HasKeys keyed w p.0 × AreKeyed keyed w 
 KeyedDigit keyed w (digits.New few) = AreKeyed keyed w (few_list few)
 
 abbrev pub KeyedMiddle : Bool → World → Middle → Type 0
+KeyedMiddle keyed w (middles.Tail side t d) = HasKeys keyed w t.0 × KeyedDigit keyed w d
+KeyedMiddle keyed w (middles.Shorter side l t r) = KeyedDigit keyed w l × HasKeys keyed w t.0 × KeyedDigit keyed w r
 KeyedMiddle keyed w m = AreKeyed keyed w (middle_elements (middle_of m)) × AreKeyed keyed w (middle_trees (middle_of m))
 
 abbrev pub KeyedLevel : Bool → World → Level → Type 0

@@ -12,6 +12,8 @@ use Rattle.finger_level.specs.declared.level.Middle.{Middle}
 use Rattle.finger_level.specs.declared.level.Middle.TheVariants as middles
 use Rattle.finger_level.specs.declared.level.Level.{Level}
 use Rattle.finger_level.specs.declared.level.Level.TheVariants as levels
+use Rattle.finger_level.specs.declared.level.Side.{Side}
+use Rattle.finger_level.specs.declared.level.Side.TheVariants as sides
 use Rattle.finger_level.specs.Few.{few_list, group_list}
 
 -- ---- what they stand for
@@ -32,11 +34,22 @@ nodes_list (nodes.Two n m) = group_list n ∷ group_list m ∷ []
 abbrev pub tree_of : Option Ref → Option ℕ
 tree_of t = option_map (λ (p : Ref). p.0) t
 
+-- a tree without the node at an end, by the side: its middle and its other digit; or with a shorter digit
+abbrev pub without : Side → ℕ → List ℕ → top.Middle
+without sides.Left t d = top.without_left t d
+without sides.Right t d = top.without_right t d
+
+abbrev pub shorter : Side → List ℕ → ℕ → List ℕ → top.Middle
+shorter sides.Left l t r = top.shorter_left l t r
+shorter sides.Right l t r = top.shorter_right l t r
+
 -- the middle, and the level, in the words of what a completion makes
 abbrev pub middle_of : Middle → top.Middle
 middle_of (middles.Tree t) = top.tree (tree_of t)
 middle_of (middles.PushL t ns) = top.push_left (tree_of t) (nodes_list ns)
 middle_of (middles.PushR t ns) = top.push_right (tree_of t) (nodes_list ns)
+middle_of (middles.Tail side t d) = without side t.0 (digit_list d)
+middle_of (middles.Shorter side l t r) = shorter side (digit_list l) t.0 (digit_list r)
 
 abbrev pub made_of : Level → Made
 made_of levels.Empty = top.empty
@@ -78,6 +91,8 @@ abbrev pub middle_places : Middle → ℕ
 middle_places (middles.Tree _) = 0
 middle_places (middles.PushL _ ns) = suc (nodes_places ns)
 middle_places (middles.PushR _ ns) = suc (nodes_places ns)
+middle_places (middles.Tail _ _ d) = suc (digit_places d)
+middle_places (middles.Shorter _ l _ r) = suc (digit_places l + digit_places r)
 
 abbrev pub places_of : Level → ℕ
 places_of levels.Empty = 0
@@ -117,6 +132,30 @@ abbrev pub trees_in : Made → List ℕ
 trees_in (top.deep l m r) = middle_trees m
 trees_in _ = []
 
+-- the elements of the next level, and the tree of the one after it, that a middle names which is what is left of a tree
+abbrev pub middle_nodes : top.Middle → List ℕ
+middle_nodes (top.without_left t d) = d
+middle_nodes (top.without_right t d) = d
+middle_nodes (top.shorter_left l t r) = l ++ r
+middle_nodes (top.shorter_right l t r) = l ++ r
+middle_nodes _ = []
+
+abbrev pub middle_inner : top.Middle → List ℕ
+middle_inner (top.without_left t d) = t ∷ []
+middle_inner (top.without_right t d) = t ∷ []
+middle_inner (top.shorter_left l t r) = t ∷ []
+middle_inner (top.shorter_right l t r) = t ∷ []
+middle_inner _ = []
+
+-- and that a level's middle names
+abbrev pub nodes_in : Made → List ℕ
+nodes_in (top.deep l m r) = middle_nodes m
+nodes_in _ = []
+
+abbrev pub inner_in : Made → List ℕ
+inner_in (top.deep l m r) = middle_inner m
+inner_in _ = []
+
 -- the items, from those of elements and trees
 abbrev pub middle_items : (ℕ → List ℕ) → top.Middle → List ℕ
 middle_items f (top.tree t) = flat_map f (if_there t)
@@ -136,10 +175,14 @@ items_of_made f (top.deep l m r) = flat_map f l ++ middle_items f m ++ flat_map 
 
 -- ---- places of a level that is made
 
--- those of its middle: each node, and a suspension
+-- those of its middle: each node, and a suspension; or what is left of a tree
 abbrev pub made_middle_places : top.Middle → ℕ
 made_middle_places (top.push_left t ns) = suc (length ns)
 made_middle_places (top.push_right t ns) = suc (length ns)
+made_middle_places (top.without_left t d) = 1
+made_middle_places (top.without_right t d) = 1
+made_middle_places (top.shorter_left l t r) = 2
+made_middle_places (top.shorter_right l t r) = 2
 made_middle_places _ = 0
 
 -- those of a level, of which one digit is new and the other takes so many
@@ -162,3 +205,9 @@ kept_left _ = 1
 abbrev pub kept_of : Made → ℕ
 kept_of (top.deep l m r) = 0
 kept_of _ = 1
+
+-- of a level that is made of a middle whose value shows such a level: the digit that the middle had beside it stands, but of an
+-- empty middle its elements are the tree, with two new digits
+abbrev pub drawn_kept : Made → ℕ
+drawn_kept top.empty = 1
+drawn_kept _ = 0

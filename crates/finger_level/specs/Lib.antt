@@ -4,3 +4,4 @@ pub mod Reads
 pub mod Keyed
 pub mod Pushes
 pub mod Puts
+pub mod Pops

@@ -3,7 +3,7 @@ use Rattle.std.specs.Prelude.{◌≡◌, ℕ, suc, ◌+◌, ◌<◌, ◌≤◌, 
 use Rattle.std.specs.List.{AllByRecursion}
 use Rattle.lazy_rec.specs.declared.places.Ref.{Ref}
 use Rattle.lazy_rec.specs.declared.records.Rec.{Rec}
-use Rattle.lazy_rec.specs.declared.records.Rec.TheVariants.{PushL, PushR}
+use Rattle.lazy_rec.specs.declared.records.Rec.TheVariants.{Deep, PushL, PushR, DeepL, DeepR}
 use Rattle.lazy_rec.specs.Meaning.{means}
 use Rattle.lazy_rec.specs.Units.{family_of}
 use Rattle.heap_store.specs.Span.{Span}
@@ -30,8 +30,8 @@ use Rattle.finger_level.specs.declared.level.Pushed.TheVariants as pushes
 use Rattle.finger_level.specs.declared.level.Family.{Family}
 use Rattle.finger_level.specs.declared.level.Family.TheVariants.{First, Later}
 use Rattle.finger_level.specs.Few.{no_place, node_record}
-use Rattle.finger_level.specs.Level.{digit_few, digit_places, middle_places, places_of, made_of, elements_in, trees_in, items_of_made, middle_elements, middle_trees, middle_items, tree_of, nodes_list, nodes_places, middle_of}
-use Rattle.finger_level.specs.Reads.{is_element, is_tree_rec, is_tree_value, IsDigitAt, AreUnder, AreThere}
+use Rattle.finger_level.specs.Level.{digit_few, digit_list, digit_places, without, shorter, middle_nodes, middle_inner, nodes_in, inner_in, middle_places, places_of, made_of, elements_in, trees_in, items_of_made, middle_elements, middle_trees, middle_items, tree_of, nodes_list, nodes_places, middle_of}
+use Rattle.finger_level.specs.Reads.{is_element, is_tree_rec, is_tree_value, IsDigitAt, IsNodeAt, IsThere, IsUnder, IsThereMiddle, IsUnderMiddle, AreUnder, AreThere}
 use Rattle.finger_level.specs.Pushes.{pushed_list}
 
 -- an element of a level, below a place
@@ -84,12 +84,16 @@ pub record DigitPut (old new : View) (before after : Span) (digit : Digit) (plac
 pub record IsMiddle (w : World) (d limit : ℕ) (m : top.Middle) : Type 0 where
   pub elements : AllByRecursion (IsElement w d limit) (middle_elements m)
   pub trees : AllByRecursion (IsTree w (suc d) limit) (middle_trees m)
+  pub nodes : AllByRecursion (IsElement w (suc d) limit) (middle_nodes m)
+  pub inner : AllByRecursion (IsTree w (suc (suc d)) limit) (middle_inner m)
   pub small : length (middle_items (means (recs w)) m) ≤ 2147483647
 
 -- a level of a tree, whose parts are below a place
 pub record IsLevel (w : World) (d limit : ℕ) (made : Made) : Type 0 where
   pub elements : AllByRecursion (IsElement w d limit) (elements_in made)
   pub trees : AllByRecursion (IsTree w (suc d) limit) (trees_in made)
+  pub nodes : AllByRecursion (IsElement w (suc d) limit) (nodes_in made)
+  pub inner : AllByRecursion (IsTree w (suc (suc d)) limit) (inner_in made)
   pub small : length (items_of_made (means (recs w)) made) ≤ 2147483647
 
 -- the record of a suspended push onto the tree t
@@ -108,11 +112,6 @@ tree_at (Some t) = t
 abbrev pub push_middle : Side → Option Ref → Nodes → top.Middle
 push_middle sides.Left t ns = top.push_left (tree_of t) (nodes_list ns)
 push_middle sides.Right t ns = top.push_right (tree_of t) (nodes_list ns)
-
--- the node that a place shows
-pub record IsNodeAt (w : World) (b : Group) (p : ℕ) : Type 0 where
-  pub weight : Weight
-  pub here : recs w p ≡ Some (node_record b weight)
 
 -- each node at its place
 abbrev pub AreNodesAt : World → Nodes → Pushed → Type 0
@@ -139,6 +138,7 @@ pub record IsLater (v : View) (d limit : ℕ) (s : Ref) (origin off : ℕ) (m : 
   pub under : s.0 < limit
   pub larger : length (middle_items (means (recs v.seen)) m) ≤ length (means (recs v.seen) s.0)
   pub low : AllByRecursion (λ p. height (recs v.seen) p < origin) (middle_elements m ++ middle_trees m)
+  pub low_below : AllByRecursion (λ p. height (recs v.seen) p < origin) (middle_nodes m ++ middle_inner m)
 
 -- how many units the first suspension of a family of so many items shows; a later one shows none
 abbrev pub units_shown : Family → ℕ → ℕ
@@ -175,12 +175,63 @@ pub record PushAsk (v : View) (run : Span) (side : Side) (t : Option Ref) (ns : 
   pub held : IsInHand v.hand run
   pub room : run.next + suc (nodes_places ns) ≤ run.end
 
+-- the record of a suspended tail, of a middle and a digit
+abbrev pub tail_record : Side → Ref → Ref → Ref → ℕ → Weight → Rec
+tail_record sides.Left t d o off w = DeepL t d w.size o off w.key
+tail_record sides.Right t d o off w = DeepR t d w.size o off w.key
+
+-- what the put of a suspended tail asks
+pub record TailAsk (v : View) (run : Span) (side : Side) (t : Ref) (digit : Digit) (family : Family) : Type 0 where
+  pub depth : ℕ
+  pub middle : IsMiddle v.seen depth run.next (without side t.0 (digit_list digit))
+  pub follows : IsFamily v depth run.next family (without side t.0 (digit_list digit))
+  pub credits : units_shown family (length (middle_items (means (recs v.seen)) (without side t.0 (digit_list digit)))) ≤ v.hand.credits
+  pub there : IsThere v.seen digit
+  pub under : IsUnder run.next digit
+  pub held : IsInHand v.hand run
+  pub room : run.next + suc (digit_places digit) ≤ run.end
+
+-- what the put of a tree with a shorter digit asks
+pub record ShorterAsk (v : View) (run : Span) (side : Side) (l : Digit) (t : Ref) (r : Digit) (family : Family) : Type 0 where
+  pub depth : ℕ
+  pub middle : IsMiddle v.seen depth run.next (shorter side (digit_list l) t.0 (digit_list r))
+  pub follows : IsFamily v depth run.next family (shorter side (digit_list l) t.0 (digit_list r))
+  pub there : IsThere v.seen l × IsThere v.seen r
+  pub under : IsUnder run.next l × IsUnder run.next r
+  pub held : IsInHand v.hand run
+  pub room : run.next + suc (digit_places l + digit_places r) ≤ run.end
+
+-- what the put of a deep tree's digits and record asks, whose middle stands
+pub record EndsAsk (v : View) (run : Span) (left : Digit) (below : ℕ) (right : Digit) (size : ℕ) : Type 0 where
+  pub depth : ℕ
+  pub first : AllByRecursion (IsElement v.seen depth run.next) (digit_list left)
+  pub tree : IsTree v.seen (suc depth) run.next below
+  pub last : AllByRecursion (IsElement v.seen depth run.next) (digit_list right)
+  pub there : IsThere v.seen left × IsThere v.seen right
+  pub under : IsUnder run.next left × IsUnder run.next right
+  pub counts : size ≡ length (flat_map (means (recs v.seen)) (digit_list left) ++ means (recs v.seen) below ++ flat_map (means (recs v.seen)) (digit_list right))
+  pub small : size ≤ 2147483647
+  pub held : IsInHand v.hand run
+  pub room : run.next + suc (digit_places left + digit_places right) ≤ run.end
+
+-- a deep tree was put over its digits and its middle
+pub record EndsPut (old new : View) (before after : Span) (left : Digit) (below : Ref) (right : Digit) (whole : Weight) (place : ℕ) : Type 0 where
+  pub laid : Laid old new before after (suc (digit_places left + digit_places right))
+  pub under : place < after.next
+  pub first : Ref
+  pub last : Ref
+  pub here : recs new.seen place ≡ Some (Deep first below last whole.size whole.key)
+  pub first_shown : IsDigitAt new.seen first.0 (digit_few left)
+  pub last_shown : IsDigitAt new.seen last.0 (digit_few right)
+
 -- what the put of a middle asks
 pub record MiddleAsk (v : View) (run : Span) (m : Middle) (family : Family) : Type 0 where
   pub depth : ℕ
   pub middle : IsMiddle v.seen depth run.next (middle_of m)
   pub follows : IsFamily v depth run.next family (middle_of m)
   pub credits : units_shown family (length (middle_items (means (recs v.seen)) (middle_of m))) ≤ v.hand.credits
+  pub there : IsThereMiddle v.seen m
+  pub under : IsUnderMiddle run.next m
   pub held : IsInHand v.hand run
   pub above : 4 < run.next
   pub room : run.next + middle_places m ≤ run.end

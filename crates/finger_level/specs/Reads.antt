@@ -9,6 +9,7 @@ use Rattle.heap_store.specs.World.{World, recs}
 use Rattle.heap_store.specs.Completion.{top_of_record}
 use Rattle.heap_store.specs.Lawful.{size_in, key_of}
 use Rattle.finger_level.specs.declared.few.Few.{Few}
+use Rattle.finger_level.specs.declared.few.Group.{Group}
 use Rattle.finger_level.specs.declared.few.Weight.{Weight}
 use Rattle.finger_level.specs.declared.level.Digit.{Digit}
 use Rattle.finger_level.specs.declared.level.Digit.TheVariants as digits
@@ -16,13 +17,17 @@ use Rattle.finger_level.specs.declared.level.Middle.{Middle}
 use Rattle.finger_level.specs.declared.level.Middle.TheVariants as middles
 use Rattle.finger_level.specs.declared.level.Level.{Level}
 use Rattle.finger_level.specs.declared.level.Level.TheVariants as levels
-use Rattle.finger_level.specs.Few.{digit_record}
+use Rattle.finger_level.specs.Few.{digit_record, node_record}
 use Rattle.finger_level.specs.Level.{made_of}
 use Rattle.finger_level.specs.Keyed.{HasKeys, KeyedLevel}
 
 -- the sorts of a finger tree's records
 abbrev pub is_element : Rec → Bool
 is_element r = same_sort (sort_of r) sorts.Element
+
+abbrev pub is_node_rec : Rec → Bool
+is_node_rec (Node _ _ _ _ _ _) = true
+is_node_rec _ = false
 
 abbrev pub is_digit_rec : Rec → Bool
 is_digit_rec r = same_sort (sort_of r) sorts.Digit
@@ -39,6 +44,11 @@ pub record IsDigitAt (w : World) (p : ℕ) (few : Few) : Type 0 where
   pub weight : Weight
   pub here : recs w p ≡ Some (digit_record few weight)
 
+-- a node that stands at a place
+pub record IsNodeAt (w : World) (b : Group) (p : ℕ) : Type 0 where
+  pub weight : Weight
+  pub here : recs w p ≡ Some (node_record b weight)
+
 -- what is said to stand does
 abbrev pub IsThere : World → Digit → Type 0
 IsThere w (digits.Old p few) = IsDigitAt w p.0 few
@@ -49,12 +59,24 @@ abbrev pub IsUnder : ℕ → Digit → Type 0
 IsUnder limit (digits.Old p few) = p.0 < limit
 IsUnder limit (digits.New few) = Unit {0}
 
+-- the same of the digits of a middle
+abbrev pub IsThereMiddle : World → Middle → Type 0
+IsThereMiddle w (middles.Tail side t d) = IsThere w d
+IsThereMiddle w (middles.Shorter side l t r) = IsThere w l × IsThere w r
+IsThereMiddle w _ = Unit {0}
+
+abbrev pub IsUnderMiddle : ℕ → Middle → Type 0
+IsUnderMiddle limit (middles.Tail side t d) = IsUnder limit d
+IsUnderMiddle limit (middles.Shorter side l t r) = IsUnder limit l × IsUnder limit r
+IsUnderMiddle limit _ = Unit {0}
+
+-- and of a level
 abbrev pub AreUnder : ℕ → Level → Type 0
-AreUnder limit (levels.Deep l m r) = IsUnder limit l × IsUnder limit r
+AreUnder limit (levels.Deep l m r) = IsUnder limit l × IsUnder limit r × IsUnderMiddle limit m
 AreUnder limit _ = Unit {0}
 
 abbrev pub AreThere : World → Level → Type 0
-AreThere w (levels.Deep l m r) = IsThere w l × IsThere w r
+AreThere w (levels.Deep l m r) = IsThere w l × IsThere w r × IsThereMiddle w m
 AreThere w _ = Unit {0}
 
 -- no node waits to be pushed

@@ -19,12 +19,31 @@ pub enum Nodes {
     Two(Group, Group),
 }
 
-/// A middle: a tree that is there, or none; or nodes that are to be pushed onto it.
+/// A middle: a tree that is there, or none; nodes that are to be pushed onto it; or a deep tree whose node at an end was taken.
+/// Of such a tree the digit of that side is shorter, or nothing of it is left: then its own middle and its other digit wait
+/// as a suspended tail.
 #[derive(Clone, Copy)]
 pub enum Middle {
     Tree(Option<Ref>),
-    PushL { tree: Option<Ref>, nodes: Nodes },
-    PushR { tree: Option<Ref>, nodes: Nodes },
+    PushL {
+        tree: Option<Ref>,
+        nodes: Nodes,
+    },
+    PushR {
+        tree: Option<Ref>,
+        nodes: Nodes,
+    },
+    Tail {
+        side: Side,
+        tree: Ref,
+        digit: Digit,
+    },
+    Shorter {
+        side: Side,
+        left: Digit,
+        tree: Ref,
+        right: Digit,
+    },
 }
 
 /// The top level of a tree.
@@ -84,6 +103,8 @@ fn middle_count(middle: Middle) -> u32
             Nodes::One(_) => 2,
             Nodes::Two(_, _) => 3,
         },
+        Middle::Tail { digit, .. } => digit_count(digit) + 1,
+        Middle::Shorter { left, right, .. } => digit_count(left) + digit_count(right) + 1,
     }
 }
 

@@ -1,5 +1,5 @@
 //! Levels of finger trees over any heap (Hinze and Paterson, Finger trees: a simple general-purpose data structure): how they
-//! are read, the pushes onto them, and how they are put.
+//! are read, the pushes onto them, what pops leave of them, and how they are put.
 //!
 //! A push onto a full digit keeps two elements there. Three go down as a node, in a suspended push onto the middle:
 //!
@@ -9,16 +9,30 @@
 //!          middle              PushL (c d e) middle
 //!          [y z]               [y z]
 //! ```
+//!
+//! Where a pop leaves nothing of a digit, the middle's node at that end becomes the digit. The middle is left without that node:
+//! a tree with a shorter digit, or a suspended tail where it was the last one of its digit:
+//!
+//! ```text
+//!     before              after a pop of x on the left
+//!     Deep [x]            Deep [b c]
+//!          Deep [(b c)]        DeepL middle [n]
+//!               middle
+//!               [n]
+//!          [y z]               [y z]
+//! ```
 #![tactic(auto)]
 
 pub mod few;
 pub mod level;
+pub mod pops;
 pub mod pushes;
 pub mod puts;
 pub mod reads;
 
 pub use few::{Few, Group, Weight};
 pub use level::{Digit, Family, Level, Middle, Nodes, Pushed, Side, places};
+pub use pops::{Popped, drawn_level, popped_level};
 pub use pushes::pushed_level;
 pub use puts::put_level;
 pub use reads::{read_digit, read_level};

@@ -5,7 +5,7 @@ ghost use Rattle.heap_store.specs.Completion.{push_one_left, push_one_right, nod
 ghost use Rattle.heap_store.specs.View.{Quiet};
 ghost use Rattle.finger_level.specs.Few.{group_list};
 ghost use Rattle.finger_level.specs.Level.{made_of, middle_of, takes_left, takes_right, middle_takes_left, middle_takes_right, places_of, kept_left, kept_right, made_places};
-ghost use Rattle.finger_level.specs.Reads.{AreThere, AreUnder, is_at_rest, is_tree_middle, is_tree_value};
+ghost use Rattle.finger_level.specs.Reads.{AreThere, AreUnder, IsThereMiddle, IsUnderMiddle, is_at_rest, is_tree_middle, is_tree_value};
 ghost use Rattle.finger_level.specs.Keyed.{HasKeys, AreKeyed, KeyedMiddle, KeyedLevel};
 ghost use Rattle.finger_level.specs.Pushes.{IsPushed};
 
@@ -97,6 +97,8 @@ fn node_left(node: Group, middle: Middle) -> Middle
     requires room { middle_takes_left middle ≡ true }
     ensures made { middle_of result ≡ node_left (group_list node) (middle_of middle) }
     ensures more { is_tree_middle middle ≡ true → middle_takes_left result ≡ true }
+    ensures stands { (w : World) → IsThereMiddle w result }
+    ensures under { (limit : ℕ) → IsUnderMiddle limit result }
     ensures keys { (k : Bool) (w : World) → AreKeyed k w (group_list node) → KeyedMiddle k w middle → KeyedMiddle k w result }
 {
     match middle {
@@ -119,6 +121,8 @@ fn node_right(node: Group, middle: Middle) -> Middle
     requires room { middle_takes_right middle ≡ true }
     ensures made { middle_of result ≡ node_right (group_list node) (middle_of middle) }
     ensures more { is_tree_middle middle ≡ true → middle_takes_right result ≡ true }
+    ensures stands { (w : World) → IsThereMiddle w result }
+    ensures under { (limit : ℕ) → IsUnderMiddle limit result }
     ensures keys { (k : Bool) (w : World) → AreKeyed k w (group_list node) → KeyedMiddle k w middle → KeyedMiddle k w result }
 {
     match middle {

@@ -7,14 +7,14 @@ ghost use Rattle.heap_store.specs.World.{recs, holds};
 ghost use Rattle.heap_store.specs.Hand.{IsInHand};
 ghost use Rattle.heap_store.specs.View.{Quiet};
 ghost use Rattle.finger_level.specs.Few.{few_list, group_list};
-ghost use Rattle.finger_level.specs.Level.{all_of, if_there, tree_of, made_of, items_of_made, digit_list, digit_places, nodes_list, nodes_places, middle_of, middle_places};
+ghost use Rattle.finger_level.specs.Level.{all_of, if_there, tree_of, made_of, items_of_made, digit_list, digit_places, without, shorter, nodes_list, nodes_places, middle_of, middle_places};
 ghost use Rattle.finger_level.specs.Keyed.{HasKeys, AreKeyed, KeyedDigit, KeyedMiddle, KeyedLevel, key_in};
 ghost use Rattle.finger_level.specs.Reads.{cached_key, is_element, is_tree_rec, IsThere, IsUnder, cached_size};
-ghost use Rattle.finger_level.specs.Puts.{PartAsk, NodePut, DigitPut, IsMiddle, IsFamily, MiddlePut, push_record, push_middle, NodesPut, PushAsk, MiddleAsk, tree_at, LevelAsk, LevelPut};
+ghost use Rattle.finger_level.specs.Puts.{PartAsk, NodePut, DigitPut, IsMiddle, IsFamily, MiddlePut, push_record, push_middle, NodesPut, PushAsk, tail_record, TailAsk, ShorterAsk, EndsAsk, EndsPut, MiddleAsk, tree_at, LevelAsk, LevelPut};
 ghost use Rattle.finger_level.specs.Pushes.{pushed_list};
 
 use crate::few::{Few, Group, Weight, digit, node};
-use crate::level::{Digit, Family, Level, Middle, Nodes, Pushed, Side};
+use crate::level::{Digit, Family, Level, Middle, Nodes, Pushed, Side, few_of};
 use crate::reads::weigh;
 use heap_store::{Heap, Run};
 use lazy_rec::{Item, Rec, Ref};
@@ -235,6 +235,92 @@ fn put_push<H: Heap>(
     }
 }
 
+fn tail(side: Side, middle: Ref, digit: Ref, origin: Ref, off: u8, weight: Weight) -> Rec
+    ensures { result ≡ tail_record side middle digit origin off weight }
+{
+    let size = weight.size;
+    let key = weight.key;
+    match side {
+        Side::Left => Rec::DeepL {
+            middle,
+            digit,
+            size,
+            origin,
+            off,
+            key,
+        },
+        Side::Right => Rec::DeepR {
+            middle,
+            digit,
+            size,
+            origin,
+            off,
+            key,
+        },
+    }
+}
+
+/// Publishes a suspended tail: of a tree of which nothing is left of one digit, by its middle and its other digit.
+fn put_tail<H: Heap>(
+    h: &mut H,
+    side: Side,
+    tree: Ref,
+    part: Digit,
+    family: Family,
+    keyed: bool,
+    run: &mut Run,
+) -> Ref
+    requires { TailAsk (H.view h.old) run.old side tree part family }
+    ensures put { MiddlePut (H.view h.old) (H.view h.new) run.old run.new family (suc (digit_places part)) (without side tree.0 (digit_list part)) result.0 }
+    ensures keys { HasKeys keyed (H.view h.old).seen tree.0 → KeyedDigit keyed (H.view h.old).seen part → HasKeys keyed (H.view h.new).seen result.0 }
+{
+    let digit = put_digit(h, part, keyed, run);
+    let few = few_of(part);
+    let near = weigh_few(h, few, keyed);
+    let inner = weigh_tree(h, tree);
+    let weight = Weight {
+        size: near.size + inner.size,
+        key: Item(near.key.0.max(inner.key.0)),
+    };
+    match family {
+        Family::First => {
+            let origin = run.next();
+            h.put(run, tail(side, tree, digit, origin, 0, weight))
+        }
+        Family::Later { origin, off, .. } => {
+            h.put(run, tail(side, tree, digit, origin, off + 1, weight))
+        }
+    }
+}
+
+/// Publishes a tree of which one digit is shorter.
+fn put_shorter<H: Heap>(
+    h: &mut H,
+    side: Side,
+    left: Digit,
+    tree: Ref,
+    right: Digit,
+    family: Family,
+    keyed: bool,
+    run: &mut Run,
+) -> Ref
+    requires { ShorterAsk (H.view h.old) run.old side left tree right family }
+    ensures put { MiddlePut (H.view h.old) (H.view h.new) run.old run.new family (suc (digit_places left + digit_places right)) (shorter side (digit_list left) tree.0 (digit_list right)) result.0 }
+    ensures keys { KeyedDigit keyed (H.view h.old).seen left → HasKeys keyed (H.view h.old).seen tree.0 → KeyedDigit keyed (H.view h.old).seen right → HasKeys keyed (H.view h.new).seen result.0 }
+{
+    let one = few_of(left);
+    let other = few_of(right);
+    let first = weigh_few(h, one, keyed);
+    let middle = weigh_tree(h, tree);
+    let last = weigh_few(h, other, keyed);
+    let above = first.size + last.size;
+    let size = above + middle.size;
+    let ends = first.key.0.max(last.key.0);
+    let key = Item(ends.max(middle.key.0));
+    let whole = Weight { size, key };
+    put_ends(h, left, tree, right, whole, keyed, run)
+}
+
 /// Publishes a middle.
 pub fn put_middle<H: Heap>(
     h: &mut H,
@@ -251,6 +337,13 @@ pub fn put_middle<H: Heap>(
         Middle::Tree(tree) => tree_or_empty(tree),
         Middle::PushL { tree, nodes } => put_push(h, Side::Left, tree, nodes, family, keyed, run),
         Middle::PushR { tree, nodes } => put_push(h, Side::Right, tree, nodes, family, keyed, run),
+        Middle::Tail { side, tree, digit } => put_tail(h, side, tree, digit, family, keyed, run),
+        Middle::Shorter {
+            side,
+            left,
+            tree,
+            right,
+        } => put_shorter(h, side, left, tree, right, family, keyed, run),
     }
 }
 
@@ -300,13 +393,30 @@ fn put_deep<H: Heap>(
     ensures keys { KeyedLevel keyed (H.view h.old).seen (Level.Deep left middle right) → whole.key.0 ≡ key_in keyed (items_of_made (means (recs (H.view h.old).seen)) (made_of (Level.Deep left middle right))) → HasKeys keyed (H.view h.new).seen result.0 }
 {
     let below = put_middle(h, middle, family, keyed, run);
+    put_ends(h, left, below, right, whole, keyed, run)
+}
+
+/// Publishes the digits and the record of a deep tree whose middle stands.
+fn put_ends<H: Heap>(
+    h: &mut H,
+    left: Digit,
+    middle: Ref,
+    right: Digit,
+    whole: Weight,
+    keyed: bool,
+    run: &mut Run,
+) -> Ref
+    requires { EndsAsk (H.view h.old) run.old left middle.0 right whole.size }
+    ensures put { EndsPut (H.view h.old) (H.view h.new) run.old run.new left middle right whole result.0 }
+    ensures keys { KeyedDigit keyed (H.view h.old).seen left → HasKeys keyed (H.view h.old).seen middle.0 → KeyedDigit keyed (H.view h.old).seen right → whole.key.0 ≡ key_in keyed (means (recs (H.view h.new).seen) result.0) → HasKeys keyed (H.view h.new).seen result.0 }
+{
     let first = put_digit(h, left, keyed, run);
     let last = put_digit(h, right, keyed, run);
     h.put(
         run,
         Rec::Deep {
             left: first,
-            middle: below,
+            middle,
             right: last,
             size: whole.size,
             key: whole.key,

@@ -4,10 +4,10 @@ ghost use Rattle.std.specs.List.{AllByRecursion};
 ghost use Rattle.lazy_rec.specs.Meaning.{means};
 ghost use Rattle.heap_store.specs.World.{recs, holds};
 ghost use Rattle.heap_store.specs.View.{Quiet};
-ghost use Rattle.finger_level.specs.Few.{few_list, group_list, digit_record, few_at};
-ghost use Rattle.finger_level.specs.Reads.{is_element, is_digit_rec, is_tree_rec, is_tree_value, IsDigitAt, LevelRead, IsWeight};
+ghost use Rattle.finger_level.specs.Few.{few_list, group_list, digit_record, few_at, group_at};
+ghost use Rattle.finger_level.specs.Reads.{is_element, is_node_rec, is_digit_rec, is_tree_rec, is_tree_value, IsDigitAt, IsNodeAt, LevelRead, IsWeight};
 
-use crate::few::{Few, Weight};
+use crate::few::{Few, Group, Weight};
 use crate::level::{Digit, Level, Middle};
 use heap_store::Heap;
 use lazy_rec::{Rec, Ref};
@@ -28,6 +28,34 @@ pub fn read_digit<H: Heap>(h: &mut H, p: Ref) -> Few
             ..
         } => few_elements(count, e1, e2, e3, e4),
         _ => unreachable!(),
+    }
+}
+
+/// The elements of a node.
+pub fn read_node<H: Heap>(h: &mut H, e: Ref) -> Group
+    requires { holds (recs (H.view h.old).seen) e.0 is_node_rec ≡ true }
+    ensures quiet { Quiet (H.view h.old) (H.view h.new) }
+    ensures shown { IsNodeAt (H.view h.old).seen result e.0 }
+{
+    match h.read(e) {
+        Rec::Node {
+            count,
+            e1,
+            e2,
+            e3,
+            ..
+        } => group_elements(count, e1, e2, e3),
+        _ => unreachable!(),
+    }
+}
+
+fn group_elements(count: u8, e1: Ref, e2: Ref, e3: Ref) -> Group
+    ensures { result ≡ group_at count e1 e2 e3 }
+{
+    if count == 2 {
+        Group::Two(e1, e2)
+    } else {
+        Group::Three(e1, e2, e3)
     }
 }
 

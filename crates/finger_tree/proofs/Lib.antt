@@ -1,3 +1,3 @@
-pub mod PushRecords
-pub mod PushReadiness
-pub mod PushBuilds
+pub mod Works
+pub mod PushWorks
+pub mod TailWorks

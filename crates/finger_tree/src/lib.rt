@@ -1,7 +1,9 @@
 //! The pending work of finger trees over any heap (Hinze and Paterson, Finger trees: a simple general-purpose data structure):
-//! the pushes that overflow into a middle.
+//! the pushes that overflow into a middle, and the tails that pops leave of one.
 #![tactic(auto)]
 
 pub mod push;
+pub mod tail;
+pub mod work;
 
-pub use push::{build, prepare};
+pub use work::{build, prepare};

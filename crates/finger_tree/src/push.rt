@@ -4,7 +4,7 @@ ghost use Rattle.lazy_rec.specs.Packed.{in_range};
 ghost use Rattle.heap_store.specs.World.{recs};
 ghost use Rattle.heap_store.specs.View.{Quiet};
 ghost use Rattle.heap_store.specs.Jobs.{cursor_fits, Prepared, IsBuildable, IsBuilt};
-ghost use Rattle.finger_tree.specs.Work.{is_push, is_finger_work, pushed_at, suspended, PushTold};
+ghost use Rattle.finger_tree.specs.Work.{is_push, is_finger_work, pushed_at, suspended, LevelTold};
 
 use finger_level::{Family, Pushed, Side, Weight, places, pushed_level, put_level};
 use heap_store::{Built, Cursor, Heap, Prep, Run, value_place};
@@ -82,7 +82,7 @@ pub fn prepare<H: Heap>(rec: &Rec, h: &mut H, s: Ref, cursor: &mut Cursor) -> Pr
     requires cursor { cursor_fits (H.view h.old).seen s.0 cursor.old ≡ true }
     ensures quiet { Quiet (H.view h.old) (H.view h.new) }
     ensures cursor { cursor_fits (H.view h.new).seen s.0 cursor.new ≡ true }
-    ensures answer { Prepared is_finger_work PushTold (H.view h.new).seen s.0 result }
+    ensures answer { Prepared is_finger_work LevelTold (H.view h.new).seen s.0 result }
 {
     let push = push_of(rec);
     match value_place(h, push.tree) {
@@ -101,7 +101,7 @@ pub fn build<H: Heap>(rec: &Rec, h: &mut H, s: Ref, cursor: &Cursor, run: &mut R
     requires rec { recs (H.view h.old).seen s.0 ≡ Some rec.now }
     requires mine { is_push rec.now ≡ true }
     requires cursor { cursor_fits (H.view h.old).seen s.0 cursor.now ≡ true }
-    requires build { IsBuildable PushTold (H.view h.old) s run.old }
+    requires build { IsBuildable LevelTold (H.view h.old) s run.old }
     ensures { IsBuilt (H.view h.old) (H.view h.new) s.0 run.old run.new result.place.0 result.steps }
 {
     let push = push_of(rec);

@@ -1,14 +1,13 @@
-use Rattle.std.proofs.Common.{◌≡◌, ◌∙◌, ap, Some, arith}
+use Rattle.std.proofs.Common.{◌≡◌, ◌∙◌, ap, Some}
 use Rattle.heap_store.specs.World.{recs}
 use Rattle.heap_store.specs.View.{Quiet}
 use Rattle.heap_store.proofs.Steps.{Quiet_trans}
-use Rattle.finger_tree.specs.Work.{suspended}
-use Rattle.finger_level.proofs.Found.{IsValueAt}
-use Rattle.finger_level.proofs.Found.{value_tree}
 use Rattle.heap_store.proofs.ValueLaws.{place_waits}
 use Rattle.heap_store.proofs.ReadLaws.{is_there}
-use Rattle.finger_tree.proofs.PushRecords.{value_up_at, tree_there, tree_sort}
-use Rattle.finger_tree.proofs.PushBuilds.{BuildFacts, build_facts, level_ask, push_built, value_done_not}
+use Rattle.finger_level.proofs.Found.{IsValueAt, value_tree}
+use Rattle.finger_tree.specs.Work.{suspended}
+use Rattle.finger_tree.proofs.Works.{Makes, BuildFacts, build_facts, work_ask, work_built, value_done_not, waited_there, value_up_at}
+use Rattle.finger_tree.proofs.PushWorks.{shape, waited, push_works}
 use Rattle.finger_tree.proofs.push.build.Goals as goal
 use Rattle.finger_tree.proofs.push.build.Goals.{After-push_of-push, After-pushed_level-level}
 
@@ -19,42 +18,43 @@ here : (g : _) (c : After-push_of-push g) → recs (g.H.Heap.view c.args.h.now).
 here g c = c.requires.rec ∙ ap Some c.push_of-push.ensures
 
 pub value_place-requires : goal.value_place-requires
-value_place-requires g c = is_there (recs (g.H.Heap.view c.args.h.now).seen) c.push_of-push.result.tree.0 (tree_there (g.met.H.Heap.lawful c.args.h.now).world c.args.s.0 c.push_of-push.result (here g (goal.at.value_place-requires g c).After-push_of-push))
+value_place-requires g c = is_there (recs (g.H.Heap.view c.args.h.now).seen) c.push_of-push.result.tree.0 (waited_there (waited (g.met.H.Heap.lawful c.args.h.now).world c.args.s.0 c.push_of-push.result (here g (goal.at.value_place-requires g c).After-push_of-push)))
 
 pub pushed_level-level-requires : goal.pushed_level-level-requires
 pushed_level-level-requires g c =
     let law1 = (g.met.H.Heap.lawful c.value_place.new.h).world in
     let e = c.value_place.ensures.quiet.grows.records _ _ (here g (goal.at.pushed_level-level-requires g c).After-push_of-push) in
-    (value_tree law1 c.push_of-push.result.tree.0 c.in-Some.q.0 (tree_sort law1 c.args.s.0 c.push_of-push.result e) c.in-Some.ensures.place).there
+    (value_tree law1 c.push_of-push.result.tree.0 c.in-Some.q.0 (waited law1 c.args.s.0 c.push_of-push.result e).sort c.in-Some.ensures.place).there
 
 -- what was read shows the same
 quiet : (g : _) (c : After-pushed_level-level g) → Quiet (g.H.Heap.view c.args.h.now) (g.H.Heap.view c.pushed_level-level.new.h)
 quiet g c = Quiet_trans c.value_place.ensures.quiet c.pushed_level-level.ensures.quiet
 
-facts : (g : _) (c : After-pushed_level-level g) → BuildFacts (g.H.Heap.view c.pushed_level-level.new.h) c.args.run.now c.args.s c.push_of-push.result
-facts g c = build_facts (quiet g c) (g.met.H.Heap.lawful c.pushed_level-level.new.h).world c.requires.build c.push_of-push.result (c.requires.rec ∙ ap Some c.push_of-push.ensures)
-
-at : (g : _) (c : After-pushed_level-level g) → IsValueAt (g.H.Heap.view c.pushed_level-level.new.h).seen c.push_of-push.result.tree.0 c.in-Some.q.0
-at g c =
+value_at_q : (g : _) (c : After-pushed_level-level g) → IsValueAt (g.H.Heap.view c.pushed_level-level.new.h).seen c.push_of-push.result.tree.0 c.in-Some.q.0
+value_at_q g c =
     let law1 = (g.met.H.Heap.lawful c.value_place.new.h).world in
     let e = c.value_place.ensures.quiet.grows.records _ _ (c.requires.rec ∙ ap Some c.push_of-push.ensures) in
-    value_up_at law1 c.pushed_level-level.ensures.quiet.grows c.push_of-push.result.tree.0 c.in-Some.q.0 (tree_there law1 c.args.s.0 c.push_of-push.result e) (value_tree law1 c.push_of-push.result.tree.0 c.in-Some.q.0 (tree_sort law1 c.args.s.0 c.push_of-push.result e) c.in-Some.ensures.place)
+    let w = waited law1 c.args.s.0 c.push_of-push.result e in
+    value_up_at law1 c.pushed_level-level.ensures.quiet.grows c.push_of-push.result.tree.0 c.in-Some.q.0 (waited_there w) (value_tree law1 c.push_of-push.result.tree.0 c.in-Some.q.0 w.sort c.in-Some.ensures.place)
+
+-- the level that it makes
+works : (g : _) (c : After-pushed_level-level g) → Makes (g.H.Heap.view c.pushed_level-level.new.h).seen c.args.s.0 (suspended c.push_of-push.result) c.in-Some.q.0 c.push_of-push.result.origin c.push_of-push.result.weight c.pushed_level-level.result
+works g c = push_works (g.met.H.Heap.lawful c.pushed_level-level.new.h).world c.args.s.0 c.in-Some.q.0 c.push_of-push.result c.pushed_level-level.result ((quiet g c).grows.records _ _ (c.requires.rec ∙ ap Some c.push_of-push.ensures)) (value_at_q g c) c.pushed_level-level.ensures.pushed
+
+facts : (g : _) (c : After-pushed_level-level g) → BuildFacts (g.H.Heap.view c.pushed_level-level.new.h) c.args.run.now c.args.s (suspended c.push_of-push.result) c.push_of-push.result.tree.0
+facts g c = build_facts (quiet g c) (g.met.H.Heap.lawful c.pushed_level-level.new.h).world c.requires.build (shape c.push_of-push.result) (c.requires.rec ∙ ap Some c.push_of-push.ensures) (λ w law e. waited law c.args.s.0 c.push_of-push.result e)
 
 pub put_level-place-requires : goal.put_level-place-requires
-put_level-place-requires g c =
-    let d = (goal.at.put_level-place-requires g c).After-pushed_level-level in
-    let f = facts g d in
-    let k = at g d in
-    let m = c.pushed_level-level.ensures.pushed in
-    let room = f.room c.in-Some.q.0 c.pushed_level-level.result k m in
-    level_ask (g.met.H.Heap.lawful c.pushed_level-level.new.h).world c.args.s c.in-Some.q.0 c.push_of-push.result c.pushed_level-level.result f.here k m f.s_low (f.value_low c.in-Some.q.0 k) f.newest f.held (omega (arith, room))
+put_level-place-requires g c = let d = (goal.at.put_level-place-requires g c).After-pushed_level-level in work_ask (shape c.push_of-push.result) c.args.s c.in-Some.q.0 c.push_of-push.result.weight c.pushed_level-level.result (works g d) (facts g d) (value_at_q g d)
 
 pub unreachable-requires : goal.unreachable-requires
 unreachable-requires g c =
-    let f = build_facts c.value_place.ensures.quiet (g.met.H.Heap.lawful c.value_place.new.h).world c.requires.build c.push_of-push.result (here g (goal.at.unreachable-requires g c).After-push_of-push) in
-    value_done_not (g.met.H.Heap.lawful c.value_place.new.h).world c.push_of-push.result.tree.0 f.known (place_waits (g.H.Heap.view c.value_place.new.h).seen c.push_of-push.result.tree.0 (tree_there (g.met.H.Heap.lawful c.value_place.new.h).world c.args.s.0 c.push_of-push.result f.here) c.in-None.ensures.place)
+    let law1 = (g.met.H.Heap.lawful c.value_place.new.h).world in
+    let e = here g (goal.at.unreachable-requires g c).After-push_of-push in
+    let f = build_facts c.value_place.ensures.quiet law1 c.requires.build (shape c.push_of-push.result) e (λ w law e. waited law c.args.s.0 c.push_of-push.result e) in
+    value_done_not law1 c.push_of-push.result.tree.0 f.known (place_waits (g.H.Heap.view c.value_place.new.h).seen c.push_of-push.result.tree.0 (waited_there (waited law1 c.args.s.0 c.push_of-push.result (c.value_place.ensures.quiet.grows.records _ _ e))) c.in-None.ensures.place)
 
 pub returns : goal.returns
 returns g c =
     let d = (goal.at.returns g c).After-pushed_level-level in
-    push_built (quiet g d) (g.met.H.Heap.lawful c.pushed_level-level.new.h).world (g.met.H.Heap.lawful c.put_level-place.new.h).world c.args.s c.in-Some.q.0 c.push_of-push.result c.pushed_level-level.result c.put_level-place.result.0 (facts g d) (at g d) c.pushed_level-level.ensures.pushed c.put_level-place.ensures.put c.put_level-place.ensures.keys
+    work_built (shape c.push_of-push.result) (g.met.H.Heap.lawful c.pushed_level-level.new.h).world (g.met.H.Heap.lawful c.put_level-place.new.h).world c.args.s c.in-Some.q.0 c.pushed_level-level.result c.put_level-place.result.0 (works g d) c.put_level-place.ensures.put c.put_level-place.ensures.keys (quiet g d) (facts g d) (value_at_q g d)
