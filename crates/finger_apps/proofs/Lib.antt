@@ -4,3 +4,4 @@ pub mod Bases
 pub mod PushEnds
 pub mod Looks
 pub mod Readiness
+pub mod PopEnds

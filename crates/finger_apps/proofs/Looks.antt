@@ -20,21 +20,21 @@ use Rattle.heap_store.proofs.LawfulLaws.{lawful_names}
 use Rattle.heap_store.proofs.MeaningLaws.{means_kept}
 use Rattle.heap_store.proofs.Steps.{Quiet_refl}
 use Rattle.finger_level.specs.Reads.{is_tree_value}
-use Rattle.finger_apps.proofs.Bases.{Given, given_later, same_built}
+use Rattle.finger_apps.proofs.Bases.{Given, given_later, same_built, stays}
 use Rattle.heap_store.specs.Completion.{Made}
 use Rattle.finger_level.specs.declared.level.Side.{Side}
 use Rattle.finger_level.specs.declared.level.Side.TheVariants as sides
-use Rattle.finger_apps.specs.Sequence.{looks_at, is_end_op, places_for, end_of}
+use Rattle.finger_apps.specs.Sequence.{looks_at, places_for, end_of}
 
-pub look_is_end : (op : Op) (side : Side) → looks_at op side ≡ true → is_end_op op ≡ true
+pub look_is_end : (op : Op) (side : Side) → looks_at op side ≡ true → stays op ≡ true
 look_is_end ops.First sides.Left h = refl
 look_is_end ops.Last sides.Right h = refl
 look_is_end _ _ h = absurd (true≢false (sym h))
 
-pub look_takes : (op : Op) (side : Side) → looks_at op side ≡ true → (size : ℕ) (m : Made) → places_for op size m ≡ 0
-look_takes ops.First sides.Left h size m = refl
-look_takes ops.Last sides.Right h size m = refl
-look_takes _ _ h size m = absurd (true≢false (sym h))
+pub look_takes : (op : Op) (side : Side) → looks_at op side ≡ true → (size : ℕ) (m b : Made) → places_for op size m b ≡ 0
+look_takes ops.First sides.Left h size m b = refl
+look_takes ops.Last sides.Right h size m b = refl
+look_takes _ _ h size m b = absurd (true≢false (sym h))
 
 pub look_makes : (op : Op) (side : Side) → looks_at op side ≡ true → (v ws : List ℕ) (x : ℕ) (item : Option ℕ) → end_of side v ≡ item → effect op v ws x ≡ (v, told item)
 look_makes ops.First sides.Left h v ws x item e = rw (← e) refl
@@ -49,4 +49,4 @@ look_built {a} {b} {job} law law2 q k kind side op item e result is =
 
 pub size_built : {v : View} {job : EventJob} {run : Span} → IsLawful v.seen → Given v job run → job.base.kind ≡ kinds.Seq → job.op ≡ ops.Size → (result : After) → result ≡ End job.base.root job.base.size (replies.Number job.base.size) → IsEventBuilt v v job run run result
 size_built {v} {job} law k kind op result is =
-    same_built (Quiet_refl v) law kind (ap is_end_op op) k (λ m. ap (λ o. places_for o job.base.size m) op) (replies.Number job.base.size) (rw (op, k.base.size) refl) result is
+    same_built (Quiet_refl v) law kind (ap stays op) k (λ m b. ap (λ o. places_for o job.base.size m b) op) (replies.Number job.base.size) (rw (op, k.base.size) refl) result is

@@ -61,8 +61,8 @@ use Rattle.finger_level.specs.Keyed.{HasKeys, KeyedLevel, key_in}
 use Rattle.finger_level.specs.Pushes.{push_all, beside, IsPushed}
 use Rattle.finger_level.specs.Puts.{IsElement, IsLevel, LevelAsk, LevelPut, Follows}
 use Rattle.finger_level.proofs.Levels.{under_level}
-use Rattle.finger_apps.specs.Sequence.{pushes_at, is_end_op, push_places, places_for, shown_at}
-use Rattle.finger_apps.proofs.Bases.{BaseRoot, base_up, Given, end_looked, same_built}
+use Rattle.finger_apps.specs.Sequence.{pushes_at, push_places, places_for, shown_at}
+use Rattle.finger_apps.proofs.Bases.{BaseRoot, base_up, Given, end_looked, same_built, stays}
 use Rattle.heap_store.proofs.Steps.{Quiet_refl}
 use Rattle.heap_store.specs.declared.jobs.After.{After}
 use Rattle.std.proofs.lemmas.Bool.{ne_eqb}
@@ -141,12 +141,12 @@ places_found {w} base side level nodes few m n =
 pub full_places : (side : Side) (size : ℕ) (shown : Made) → size ≡ 2147483647 → push_places side size shown ≡ 0
 full_places side size shown full = cond-true (eqb size most_items) 0 (suc (made_places (kept_of shown) (push_all side (0 ∷ []) shown))) (eq-eqb size most_items full)
 
-pub op_places : (op : Op) (side : Side) (size : ℕ) (shown : Made) → pushes_at op side ≡ true → places_for op size shown ≡ push_places side size shown
-op_places ops.Pushl sides.Left size shown h = refl
-op_places ops.Pushr sides.Right size shown h = refl
-op_places _ _ size shown h = absurd (true≢false (sym h))
+pub op_places : (op : Op) (side : Side) (size : ℕ) (shown below : Made) → pushes_at op side ≡ true → places_for op size shown below ≡ push_places side size shown
+op_places ops.Pushl sides.Left size shown below h = refl
+op_places ops.Pushr sides.Right size shown below h = refl
+op_places _ _ size shown below h = absurd (true≢false (sym h))
 
-pub push_is_end : (op : Op) (side : Side) → pushes_at op side ≡ true → is_end_op op ≡ true
+pub push_is_end : (op : Op) (side : Side) → pushes_at op side ≡ true → stays op ≡ true
 push_is_end ops.Pushl sides.Left h = refl
 push_is_end ops.Pushr sides.Right h = refl
 push_is_end _ _ h = absurd (true≢false (sym h))
@@ -256,7 +256,7 @@ pushable {a} {c} {job} {run} {next} {leaf} k side kind op stage level m whole si
       small = (let z = ap (λ md. length (items_of_made (means (recs w)) md)) m.made in omega (arith, z, count, b.size, k.few));
     }) in
     let places : places_of level ≡ made_places (kept_of k.given.shown) (push_all side (0 ∷ []) k.given.shown) = m.places ∙ rw (m.made, shown) (same_places side leaf.0 (kept_of (made_of m.before)) (made_of m.before)) in
-    let taken = op_places job.op side job.base.size k.given.shown op ∙ push_room side job.base.size k.given.shown k.few in
+    let taken = op_places job.op side job.base.size k.given.shown k.given.below op ∙ push_room side job.base.size k.given.shown k.few in
     let room : run.next + suc (made_places (kept_of k.given.shown) (push_all side (0 ∷ []) k.given.shown)) ≡ run.end = omega (arith, k.given.places, taken) in
     let due = (job_may job side kind op stage).1 in
     let spent : bits whole.size ≡ bits (job.base.size + 1) = ap bits size in
@@ -305,12 +305,12 @@ push_ended {a} {c} {n} {job} {run} {next} {z} {leaf} side kind op stage k level 
 
 -- a push that makes something takes a place
 pub push_taken : {v : View} {job : EventJob} {run : Span} → Given v job run → (side : Side) → pushes_at job.op side ≡ true → job.base.size < 2147483647 → run.next < run.end
-push_taken {v} {job} k side op few = let taken = op_places job.op side job.base.size k.shown op ∙ push_room side job.base.size k.shown few in omega (arith, k.places, taken)
+push_taken {v} {job} k side op few = let taken = op_places job.op side job.base.size k.shown k.below op ∙ push_room side job.base.size k.shown few in omega (arith, k.places, taken)
 
 -- and one onto a full sequence none
 pub full_built : {v : View} {job : EventJob} {run : Span} → IsLawful v.seen → Given v job run → job.base.kind ≡ kinds.Seq → (side : Side) → pushes_at job.op side ≡ true → job.base.size ≡ 2147483647 → (result : After) → result ≡ End job.base.root job.base.size replies.TooLong → IsEventBuilt v v job run run result
 full_built {v} {job} law k kind side op full result is =
-    same_built (Quiet_refl v) law kind (push_is_end job.op side op) k (λ m. op_places job.op side job.base.size m op ∙ full_places side job.base.size m full) replies.TooLong (push_full job.op side _ _ job.arg op (omega (arith, full, k.base.size))) result is
+    same_built (Quiet_refl v) law kind (push_is_end job.op side op) k (λ m b. op_places job.op side job.base.size m b op ∙ full_places side job.base.size m full) replies.TooLong (push_full job.op side _ _ job.arg op (omega (arith, full, k.base.size))) result is
 
 -- ---- the leaf
 

@@ -1,5 +1,5 @@
-//! The operations of sequences that never force: `size`, and the pushes and looks at both ends, each in one stage.
-ghost use Rattle.std.specs.Prelude.{◌≡◌, ◌^◌, ◌<◌, ◌≤◌, true, Some};
+//! The operations at the ends of sequences: `size`, pushes, pops and looks at both ends, each in one stage.
+ghost use Rattle.std.specs.Prelude.{◌≡◌, ◌^◌, ◌<◌, ◌≤◌, true, false, Some};
 ghost use Rattle.lazy_rec.specs.declared.limits.TheConstants.{MOST_ITEMS};
 ghost use Rattle.heap_store.specs.World.{recs, holds};
 ghost use Rattle.heap_store.specs.Completion.{Made};
@@ -7,17 +7,21 @@ ghost use Rattle.heap_store.specs.View.{Quiet};
 ghost use Rattle.heap_store.specs.Jobs.{IsJob, EventPrepared, IsEventBuildable, IsEventBuilt};
 ghost use Rattle.heap_store.specs.OneStage.{ends_at, is_end};
 ghost use Rattle.finger_level.specs.Reads.{is_tree_value};
+ghost use Rattle.finger_level.specs.Pops.{IsWhole};
 ghost use Rattle.finger_tree.specs.Work.{is_finger_work};
-ghost use Rattle.finger_apps.specs.Sequence.{is_end_op, pushes_at, looks_at, push_places, shown_at, IsReadyEvent, is_ready};
+ghost use Rattle.finger_apps.specs.Sequence.{is_end_op, is_pop, drops, pushes_at, pops_at, looks_at, push_places, shown_at, IsReadyEvent, PopPrepared, is_ready};
 
 use crate::sequence::end_item;
-use finger_level::{Family, Pushed, Side, Weight, places, pushed_level, put_level};
+use finger_level::{
+    Family, Popped, Pushed, Side, Weight, places, popped_level, pushed_level, put_level,
+};
 use heap_store::{After, Cursor, EventJob, Heap, Prep, Run, Stage, Version};
 use lazy_rec::limits::MOST_ITEMS;
 use lazy_rec::{Item, Kind, Op, Rec, Ref, Reply};
 
-/// What an operation at an end of a sequence needs: nothing. A push takes the places of a leaf and of the level that it makes,
-/// five at most; other operations take none. No operation has cells to pass one by one, so the cursor stays.
+/// What an operation at an end of a sequence needs: a pop off a digit of one element the middle, others nothing. A push takes the
+/// places of a leaf and of the level that it makes, five at most; a pop those of the level that it leaves, four at most; other
+/// operations take none. No operation has cells to pass one by one, so the cursor stays.
 pub fn prepare_event<H: Heap>(h: &mut H, job: &EventJob, cursor: &mut Cursor) -> Prep
     requires job { IsJob (H.view h.old).seen job.now }
     requires kind { job.now.base.kind ≡ Kind.Seq }
@@ -26,9 +30,11 @@ pub fn prepare_event<H: Heap>(h: &mut H, job: &EventJob, cursor: &mut Cursor) ->
     ensures quiet { Quiet (H.view h.old) (H.view h.new) }
     ensures cursor { cursor.new ≡ cursor.old }
     ensures answer { EventPrepared is_finger_work IsReadyEvent (H.view h.new).seen job.now result }
-    ensures ready { is_ready result ≡ true }
+    ensures ready { is_pop job.now.op ≡ false → is_ready result ≡ true }
 {
     match job.op {
+        Op::Popl => places_of_pop(h, Side::Left, &job.base),
+        Op::Popr => places_of_pop(h, Side::Right, &job.base),
         Op::Pushl => Prep::Ready {
             nodes: places_of_push(h, Side::Left, &job.base),
         },
@@ -40,18 +46,21 @@ pub fn prepare_event<H: Heap>(h: &mut H, job: &EventJob, cursor: &mut Cursor) ->
 }
 
 /// Does an operation at an end of a sequence. What replies `Empty` or `TooLong`, `size`, `first` and `last` end at the base's
-/// root and spend nothing. A push spends at most its due: where a full digit overflows, the suspended push of the node shows as
-/// many units as the new size has binary digits.
+/// root and spend nothing. A push or a pop spends at most its due: where a full digit overflows, the suspended push of the node
+/// shows as many units as the new size has binary digits, and where a middle is drawn up, what is left of it at most as many as the
+/// base's size has.
 pub fn build_event<H: Heap>(h: &mut H, job: &EventJob, cursor: &Cursor, run: &mut Run) -> After
     requires kind { job.now.base.kind ≡ Kind.Seq }
     requires op { is_end_op job.now.op ≡ true }
     requires stage { job.now.stage ≡ Stage.Start }
     requires build { IsEventBuildable IsReadyEvent (H.view h.old) job.now run.old }
     ensures built { IsEventBuilt (H.view h.old) (H.view h.new) job.now run.old run.new result }
-    ensures base { run.old.next ≡ run.old.end → ends_at result job.now.base.root.0 ≡ true }
+    ensures base { drops job.now.op job.now.base.size ≡ false → run.old.next ≡ run.old.end → ends_at result job.now.base.root.0 ≡ true }
     ensures ends { is_end result ≡ true }
 {
     match job.op {
+        Op::Popl => pop(h, Side::Left, job, run),
+        Op::Popr => pop(h, Side::Right, job, run),
         Op::Pushl => push(h, Side::Left, job, run),
         Op::Pushr => push(h, Side::Right, job, run),
         Op::First => look(h, Side::Left, job, run),
@@ -73,6 +82,21 @@ fn places_of_push<H: Heap>(h: &mut H, side: Side, base: &Version) -> u32
     }
     let level = pushed_level(h, side, Pushed::One(Ref(0)), base.root);
     places(level) + 1
+}
+
+/// What a pop needs, and how many places it takes.
+fn places_of_pop<H: Heap>(h: &mut H, side: Side, base: &Version) -> Prep
+    requires { IsWhole (H.view h.old).seen base.now.root.0 }
+    ensures quiet { Quiet (H.view h.old) (H.view h.new) }
+    ensures answer { PopPrepared (H.view h.new).seen side base.now.root.0 result }
+{
+    match popped_level(h, side, base.root) {
+        Popped::Nothing => Prep::Ready { nodes: 0 },
+        Popped::Rest { level, .. } => Prep::Ready {
+            nodes: places(level),
+        },
+        Popped::Need(middle) => Prep::Need(middle),
+    }
 }
 
 /// An event that makes nothing ends at its base's root.
@@ -120,6 +144,32 @@ fn push<H: Heap>(h: &mut H, side: Side, job: &EventJob, run: &mut Run) -> After
         root,
         size: job.base.size + 1,
         reply: Reply::Ok,
+    }
+}
+
+/// Takes the item at an end off.
+fn pop<H: Heap>(h: &mut H, side: Side, job: &EventJob, run: &mut Run) -> After
+    requires kind { job.now.base.kind ≡ Kind.Seq }
+    requires op { pops_at job.now.op side ≡ true }
+    requires stage { job.now.stage ≡ Stage.Start }
+    requires build { IsEventBuildable IsReadyEvent (H.view h.old) job.now run.old }
+    ensures built { IsEventBuilt (H.view h.old) (H.view h.new) job.now run.old run.new result }
+    ensures base { job.now.base.size ≡ 0 → ends_at result job.now.base.root.0 ≡ true }
+    ensures ends { is_end result ≡ true }
+{
+    match popped_level(h, side, job.base.root) {
+        Popped::Nothing => same(&job.base, Reply::Empty),
+        Popped::Rest { level, .. } => {
+            let size = job.base.size - 1;
+            let whole = Weight { size, key: Item(0) };
+            let root = put_level(h, level, whole, Family::First, false, run);
+            After::End {
+                root,
+                size,
+                reply: Reply::Ok,
+            }
+        }
+        Popped::Need(_) => unreachable!(),
     }
 }
 

@@ -1,5 +1,5 @@
-//! Sequences on finger trees over any heap (Hinze and Paterson, Finger trees: a simple general-purpose data structure): pushes
-//! at both ends, and looks at them. Pops are not built yet, so no table of kinds has sequences.
+//! Sequences on finger trees over any heap (Hinze and Paterson, Finger trees: a simple general-purpose data structure): pushes,
+//! pops and looks at both ends. Their operations in the middle are not built yet, so no table of kinds has sequences.
 #![tactic(auto)]
 
 pub mod events;

@@ -1,10 +1,29 @@
 use Rattle.std.proofs.Common.{refl, ap}
 use Rattle.heap_store.proofs.Steps.{Quiet_refl}
 use Rattle.finger_level.specs.declared.level.Side.TheVariants as sides
-use Rattle.finger_apps.specs.Sequence.{pushes_at}
+use Rattle.finger_apps.specs.Sequence.{pops_at, pushes_at}
 use Rattle.finger_apps.proofs.Bases.{base_root, base_up}
-use Rattle.finger_apps.proofs.Readiness.{push_ready, none_ready, rest_takes}
+use Rattle.finger_apps.proofs.PopEnds.{pop_answer}
+use Rattle.finger_apps.proofs.Readiness.{push_ready, none_ready, others}
 use Rattle.finger_apps.proofs.events.prepare_event.Goals as goal
+
+pub places_of_pop-requires : goal.places_of_pop-requires
+places_of_pop-requires g c = let b = base_root (g.met.H.Heap.lawful c.args.h.now).world c.args.job.now.base c.requires.job.base c.requires.kind in record { depth = 0; value = b.value; of_level = b.of_level }
+
+pub places_of_pop-requires-in-Popr : goal.places_of_pop-requires-in-Popr
+places_of_pop-requires-in-Popr g c = let b = base_root (g.met.H.Heap.lawful c.args.h.now).world c.args.job.now.base c.requires.job.base c.requires.kind in record { depth = 0; value = b.value; of_level = b.of_level }
+
+pub returns-in-Popl-clause-answer : goal.returns-in-Popl-clause-answer
+returns-in-Popl-clause-answer g c =
+    let law = (g.met.H.Heap.lawful c.args.h.now).world in
+    let p = c.places_of_pop.ensures in
+    pop_answer (g.met.H.Heap.lawful c.places_of_pop.new.h).world c.args.job.now sides.Left c.requires.kind (ap (λ o. pops_at o sides.Left) c.in-Popl.is) c.requires.stage (base_up law p.quiet.grows c.args.job.now.base (base_root law c.args.job.now.base c.requires.job.base c.requires.kind)) c.places_of_pop.result p.answer
+
+pub returns-in-Popr-clause-answer : goal.returns-in-Popr-clause-answer
+returns-in-Popr-clause-answer g c =
+    let law = (g.met.H.Heap.lawful c.args.h.now).world in
+    let p = c.places_of_pop-in-Popr.ensures in
+    pop_answer (g.met.H.Heap.lawful c.places_of_pop-in-Popr.new.h).world c.args.job.now sides.Right c.requires.kind (ap (λ o. pops_at o sides.Right) c.in-Popr.is) c.requires.stage (base_up law p.quiet.grows c.args.job.now.base (base_root law c.args.job.now.base c.requires.job.base c.requires.kind)) c.places_of_pop-in-Popr.result p.answer
 
 pub returns-in-Pushl-clause-answer : goal.returns-in-Pushl-clause-answer
 returns-in-Pushl-clause-answer g c =
@@ -21,9 +40,11 @@ returns-in-Pushr-clause-answer g c =
 pub returns-in_default : goal.returns-in_default
 returns-in_default g c =
     let law = (g.met.H.Heap.lawful c.args.h.now).world in
+    let d = c.in_default in
+    let k = others c.args.job.now.op c.requires.op d.not-Popl d.not-Popr d.not-Pushl d.not-Pushr in
     record {
       quiet = Quiet_refl (g.H.Heap.view c.args.h.now);
       cursor = refl;
-      answer = none_ready law c.args.job.now (base_root law c.args.job.now.base c.requires.job.base c.requires.kind) (rest_takes c.args.job.now.op c.requires.op c.in_default.not-Pushl c.in_default.not-Pushr c.args.job.now.base.size);
-      ready = refl;
+      answer = none_ready law c.args.job.now (base_root law c.args.job.now.base c.requires.job.base c.requires.kind) k.0 (k.1 c.args.job.now.base.size);
+      ready = λ _. refl;
     }
