@@ -15,6 +15,8 @@ use Rattle.lazy_rec.specs.Meaning.{means}
 use Rattle.lazy_rec.specs.Plain.{effect}
 use Rattle.heap_store.specs.declared.versions.Version.{Version}
 use Rattle.heap_store.specs.declared.jobs.EventJob.{EventJob}
+use Rattle.heap_store.specs.declared.jobs.Stage.{Stage}
+use Rattle.heap_store.specs.declared.jobs.Stage.TheVariants.{Start, HeapPaid, Parts, Root}
 use Rattle.heap_store.specs.declared.jobs.After.{After}
 use Rattle.heap_store.specs.declared.jobs.After.TheVariants.{End}
 use Rattle.heap_store.specs.Span.{Span}
@@ -26,10 +28,10 @@ use Rattle.heap_store.specs.Legal.{in_order}
 use Rattle.heap_store.specs.Lawful.{IsLawful, is_root, is_of_level, keeps_keys}
 use Rattle.heap_store.specs.LookedAt.{has_looked, looked_at, is_result}
 use Rattle.heap_store.specs.Hand.{IsInHand}
-use Rattle.heap_store.specs.Stages.{due_now}
+use Rattle.heap_store.specs.Stages.{due_now, name_of, has_stage}
 use Rattle.heap_store.specs.View.{View, Quiet}
 use Rattle.heap_store.specs.OneStage.{ends_at}
-use Rattle.heap_store.specs.Jobs.{IsVersion, IsEventBuildable, IsEventBuilt, IsEnd, outcome}
+use Rattle.heap_store.specs.Jobs.{IsVersion, IsJob, IsEventBuildable, IsEventBuilt, IsEnd, outcome}
 use Rattle.heap_store.proofs.GrowthLaws.{at_true, grows_trans}
 use Rattle.heap_store.proofs.LawfulLaws.{lawful_names}
 use Rattle.heap_store.proofs.MadeLaws.{level_up, top_at_up}
@@ -48,7 +50,7 @@ use Rattle.finger_level.specs.Pops.{both_ends, is_single, drawn_middle, IsFrom}
 use Rattle.finger_level.proofs.Found.{value_tree}
 use Rattle.finger_level.proofs.Popping.{deep_middle, found_up}
 use Rattle.finger_level.proofs.Keying.{keyed_up}
-use Rattle.finger_apps.specs.Sequence.{places_for, drawn_for, shown_at, IsReadyEvent}
+use Rattle.finger_apps.specs.Sequence.{is_end_op, places_for, drawn_for, shown_at, IsReadyEvent}
 
 -- ---- the base
 
@@ -262,3 +264,20 @@ same_built q law kind op k none reply makes result is =
 
 pub same_root : (job : EventJob) (size : ℕ) (reply : Reply) (result : After) → result ≡ End job.base.root size reply → ends_at result job.base.root.0 ≡ true
 same_root job size reply result e = rw e (eq-eqb job.base.root.0 job.base.root.0 refl)
+
+-- ---- the stage
+
+-- an operation at an end has one stage
+at_first : (op : Op) (s : Stage) → is_end_op op ≡ true → has_stage kinds.Seq op (name_of s) ≡ true → s ≡ Start
+at_first op Start e h = refl
+at_first op (HeapPaid _) e h = absurd (true≢false (sym h))
+at_first op (Parts _ _ _ _) e h = absurd (true≢false (sym h))
+at_first ops.Nth (Root _ _) e h = absurd (true≢false (sym e))
+at_first ops.Take (Root _ _) e h = absurd (true≢false (sym e))
+at_first ops.Drop (Root _ _) e h = absurd (true≢false (sym e))
+at_first ops.Concat (Root _ _) e h = absurd (true≢false (sym e))
+at_first ops.Split (Root _ _) e h = absurd (true≢false (sym e))
+at_first _ (Root _ _) e h = absurd (true≢false (sym h))
+
+pub starts : {w : World} (job : EventJob) → job.base.kind ≡ kinds.Seq → is_end_op job.op ≡ true → IsJob w job → job.stage ≡ Start
+starts job kind op k = at_first job.op job.stage op (rw kind at k.has)

@@ -26,7 +26,6 @@ pub fn prepare_event<H: Heap>(h: &mut H, job: &EventJob, cursor: &mut Cursor) ->
     requires job { IsJob (H.view h.old).seen job.now }
     requires kind { job.now.base.kind ≡ Kind.Seq }
     requires op { is_end_op job.now.op ≡ true }
-    requires stage { job.now.stage ≡ Stage.Start }
     ensures quiet { Quiet (H.view h.old) (H.view h.new) }
     ensures cursor { cursor.new ≡ cursor.old }
     ensures answer { EventPrepared is_finger_work IsReadyEvent (H.view h.new).seen job.now result }
@@ -52,7 +51,6 @@ pub fn prepare_event<H: Heap>(h: &mut H, job: &EventJob, cursor: &mut Cursor) ->
 pub fn build_event<H: Heap>(h: &mut H, job: &EventJob, cursor: &Cursor, run: &mut Run) -> After
     requires kind { job.now.base.kind ≡ Kind.Seq }
     requires op { is_end_op job.now.op ≡ true }
-    requires stage { job.now.stage ≡ Stage.Start }
     requires build { IsEventBuildable IsReadyEvent (H.view h.old) job.now run.old }
     ensures built { IsEventBuilt (H.view h.old) (H.view h.new) job.now run.old run.new result }
     ensures base { drops job.now.op job.now.base.size ≡ false → run.old.next ≡ run.old.end → ends_at result job.now.base.root.0 ≡ true }

@@ -2,7 +2,7 @@ use Rattle.std.proofs.Common.{refl, ap}
 use Rattle.heap_store.proofs.Steps.{Quiet_refl}
 use Rattle.finger_level.specs.declared.level.Side.TheVariants as sides
 use Rattle.finger_apps.specs.Sequence.{pops_at, pushes_at}
-use Rattle.finger_apps.proofs.Bases.{base_root, base_up}
+use Rattle.finger_apps.proofs.Bases.{base_root, base_up, starts}
 use Rattle.finger_apps.proofs.PopEnds.{pop_answer}
 use Rattle.finger_apps.proofs.Readiness.{push_ready, none_ready, others}
 use Rattle.finger_apps.proofs.events.prepare_event.Goals as goal
@@ -17,25 +17,25 @@ pub returns-in-Popl-clause-answer : goal.returns-in-Popl-clause-answer
 returns-in-Popl-clause-answer g c =
     let law = (g.met.H.Heap.lawful c.args.h.now).world in
     let p = c.places_of_pop.ensures in
-    pop_answer (g.met.H.Heap.lawful c.places_of_pop.new.h).world c.args.job.now sides.Left c.requires.kind (ap (λ o. pops_at o sides.Left) c.in-Popl.is) c.requires.stage (base_up law p.quiet.grows c.args.job.now.base (base_root law c.args.job.now.base c.requires.job.base c.requires.kind)) c.places_of_pop.result p.answer
+    pop_answer (g.met.H.Heap.lawful c.places_of_pop.new.h).world c.args.job.now sides.Left c.requires.kind (ap (λ o. pops_at o sides.Left) c.in-Popl.is) (starts c.args.job.now c.requires.kind c.requires.op c.requires.job) (base_up law p.quiet.grows c.args.job.now.base (base_root law c.args.job.now.base c.requires.job.base c.requires.kind)) c.places_of_pop.result p.answer
 
 pub returns-in-Popr-clause-answer : goal.returns-in-Popr-clause-answer
 returns-in-Popr-clause-answer g c =
     let law = (g.met.H.Heap.lawful c.args.h.now).world in
     let p = c.places_of_pop-in-Popr.ensures in
-    pop_answer (g.met.H.Heap.lawful c.places_of_pop-in-Popr.new.h).world c.args.job.now sides.Right c.requires.kind (ap (λ o. pops_at o sides.Right) c.in-Popr.is) c.requires.stage (base_up law p.quiet.grows c.args.job.now.base (base_root law c.args.job.now.base c.requires.job.base c.requires.kind)) c.places_of_pop-in-Popr.result p.answer
+    pop_answer (g.met.H.Heap.lawful c.places_of_pop-in-Popr.new.h).world c.args.job.now sides.Right c.requires.kind (ap (λ o. pops_at o sides.Right) c.in-Popr.is) (starts c.args.job.now c.requires.kind c.requires.op c.requires.job) (base_up law p.quiet.grows c.args.job.now.base (base_root law c.args.job.now.base c.requires.job.base c.requires.kind)) c.places_of_pop-in-Popr.result p.answer
 
 pub returns-in-Pushl-clause-answer : goal.returns-in-Pushl-clause-answer
 returns-in-Pushl-clause-answer g c =
     let law = (g.met.H.Heap.lawful c.args.h.now).world in
     let p = c.places_of_push.ensures in
-    push_ready (g.met.H.Heap.lawful c.places_of_push.new.h).world c.args.job.now sides.Left c.requires.kind (ap (λ o. pushes_at o sides.Left) c.in-Pushl.is) c.requires.stage (base_up law p.quiet.grows c.args.job.now.base (base_root law c.args.job.now.base c.requires.job.base c.requires.kind)) c.places_of_push.result p.places p.most
+    push_ready (g.met.H.Heap.lawful c.places_of_push.new.h).world c.args.job.now sides.Left c.requires.kind (ap (λ o. pushes_at o sides.Left) c.in-Pushl.is) (starts c.args.job.now c.requires.kind c.requires.op c.requires.job) (base_up law p.quiet.grows c.args.job.now.base (base_root law c.args.job.now.base c.requires.job.base c.requires.kind)) c.places_of_push.result p.places p.most
 
 pub returns-in-Pushr-clause-answer : goal.returns-in-Pushr-clause-answer
 returns-in-Pushr-clause-answer g c =
     let law = (g.met.H.Heap.lawful c.args.h.now).world in
     let p = c.places_of_push-in-Pushr.ensures in
-    push_ready (g.met.H.Heap.lawful c.places_of_push-in-Pushr.new.h).world c.args.job.now sides.Right c.requires.kind (ap (λ o. pushes_at o sides.Right) c.in-Pushr.is) c.requires.stage (base_up law p.quiet.grows c.args.job.now.base (base_root law c.args.job.now.base c.requires.job.base c.requires.kind)) c.places_of_push-in-Pushr.result p.places p.most
+    push_ready (g.met.H.Heap.lawful c.places_of_push-in-Pushr.new.h).world c.args.job.now sides.Right c.requires.kind (ap (λ o. pushes_at o sides.Right) c.in-Pushr.is) (starts c.args.job.now c.requires.kind c.requires.op c.requires.job) (base_up law p.quiet.grows c.args.job.now.base (base_root law c.args.job.now.base c.requires.job.base c.requires.kind)) c.places_of_push-in-Pushr.result p.places p.most
 
 pub returns-in_default : goal.returns-in_default
 returns-in_default g c =
