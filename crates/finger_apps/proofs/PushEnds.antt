@@ -123,6 +123,11 @@ few_places side e (levels.Deep (digits.Old p f) (middles.Shorter sd l t d) r) h 
     not_rest : (r : _) → is_at_rest (levels.Deep (digits.Old p f) (middles.Shorter sd l t d) r) ≡ true → ⊥
     not_rest (digits.Old _ _) h = true≢false (sym h)
     not_rest (digits.New _) h = true≢false (sym h)
+few_places side e (levels.Deep (digits.Old p f) (middles.Between x n y) r) h = absurd (not_rest r h)
+  where
+    not_rest : (r : _) → is_at_rest (levels.Deep (digits.Old p f) (middles.Between x n y) r) ≡ true → ⊥
+    not_rest (digits.Old _ _) h = true≢false (sym h)
+    not_rest (digits.New _) h = true≢false (sym h)
 
 push_room : (side : Side) (size : ℕ) (shown : Made) → size < 2147483647 → push_places side size shown ≡ suc (made_places (kept_of shown) (push_all side (0 ∷ []) shown))
 push_room side size shown few = cond-false (eqb size most_items) 0 _ (ne_eqb size most_items (λ z. omega (arith, z, few)))

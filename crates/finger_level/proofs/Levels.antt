@@ -60,7 +60,7 @@ pub record DigitPart (a w : World) (d q : ℕ) (f : Few) : Type 0 where
   pub items : means (recs w) q ≡ flat_map (means (recs a)) (few_list f)
   pub shown : is_digit w (few_list f) q ≡ true
 
-on_few : (test : List ℕ → Bool) (f : Few) (weight : Weight) → on_digit test (digit_record f weight) ≡ test (few_list f)
+pub on_few : (test : List ℕ → Bool) (f : Few) (weight : Weight) → on_digit test (digit_record f weight) ≡ test (few_list f)
 on_few test (few.One x) weight = refl
 on_few test (few.Two x y) weight = refl
 on_few test (few.Three x y z) weight = refl

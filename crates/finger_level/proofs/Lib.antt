@@ -16,6 +16,10 @@ pub mod Funded
 pub mod Keys
 pub mod Keying
 pub mod Tails
+pub mod NodeRows
+pub mod Betweens
+pub mod Concats
+pub mod Joins
 pub mod TailPuts
 pub mod Draws
 pub mod Popping

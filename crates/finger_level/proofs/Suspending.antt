@@ -58,11 +58,14 @@ push_pending sides.Right t (pushes.One e) o off w = refl
 push_pending sides.Right t (pushes.Two e f) o off w = refl
 
 -- a later one shows no unit
+pub no_units : (o off size : ℕ) → if_first (suc off) (units_below o (bits size)) ≡ []
+no_units o off size = cond-false (eqb (suc off) 0) (units_below o (bits size)) [] (ne_eqb (suc off) 0 (λ z. omega (arith, z)))
+
 pub later_free : (rs : Records) (p : ℕ) (side : Side) (t : Ref) (es : Pushed) (o : Ref) (off : ℕ) (w : Weight) → paid rs p (push_record side t es o (suc off) w) ≡ []
 later_free rs p side t es o off w = by side es
   where
     none : if_first (suc off) (units_below o.0 (bits w.size)) ≡ []
-    none = cond-false (eqb (suc off) 0) (units_below o.0 (bits w.size)) [] (ne_eqb (suc off) 0 (λ z. omega (arith, z)))
+    none = no_units o.0 off w.size
 
     by : (side : Side) (es : Pushed) → paid rs p (push_record side t es o (suc off) w) ≡ []
     by sides.Left (pushes.One e) = none

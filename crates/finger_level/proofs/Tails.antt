@@ -50,7 +50,7 @@ use Rattle.finger_level.proofs.Builds.{DigitWell, tree_up, tree_named, digit_nam
 use Rattle.finger_level.proofs.NodePuts.{all_left, all_right}
 use Rattle.finger_level.proofs.Families.{next_fits, level_few}
 use Rattle.finger_level.proofs.Funded.{first_gain}
-use Rattle.finger_level.proofs.Suspending.{place_self, makes_next}
+use Rattle.finger_level.proofs.Suspending.{place_self, makes_next, no_units}
 use Rattle.finger_level.proofs.Pushing.{LaterFits, both_length, later_up, shift}
 use Rattle.finger_level.proofs.Levels.{DigitPart, digit_part, digit_low}
 
@@ -93,7 +93,7 @@ tail_free : (rs : Records) (p : ℕ) (side : Side) (t q o : Ref) (off : ℕ) (w 
 tail_free rs p side t q o off w = by side
   where
     none : if_first (suc off) (units_below o.0 (bits w.size)) ≡ []
-    none = cond-false (eqb (suc off) 0) (units_below o.0 (bits w.size)) [] (ne_eqb (suc off) 0 (λ z. omega (arith, z)))
+    none = no_units o.0 off w.size
 
     by : (side : Side) → paid rs p (tail_record side t q o (suc off) w) ≡ []
     by sides.Left = none
@@ -231,6 +231,13 @@ hung {v} {b} {c} {d} {run} {y} {side} {t} {part} {family} law0 law1 law k q p q1
       credits = (let e : d.hand.credits ≡ b.hand.credits = ap (λ (h : Hand). h.credits) quiet.hand in omega (arith, l.credits, e));
     }
 
+-- an element of a digit
+pub first_of : {w : World} (d limit : ℕ) (f : Few) → AllByRecursion (IsElement w d limit) (few_list f) → (e : ℕ) × IsElement w d limit e × (length (means (recs w) e) ≤ length (flat_map (means (recs w)) (few_list f)))
+first_of {w} d limit (few.One a) h = (a.0, h.0, (let z = length-append (means (recs w) a.0) [] in omega (arith, z)))
+first_of {w} d limit (few.Two a b) h = (a.0, h.0, (let z = length-append (means (recs w) a.0) (flat_map (means (recs w)) (b.0 ∷ [])) in omega (arith, z)))
+first_of {w} d limit (few.Three a b c) h = (a.0, h.0, (let z = length-append (means (recs w) a.0) (flat_map (means (recs w)) (b.0 ∷ c.0 ∷ [])) in omega (arith, z)))
+first_of {w} d limit (few.Four a b c e) h = (a.0, h.0, (let z = length-append (means (recs w) a.0) (flat_map (means (recs w)) (b.0 ∷ c.0 ∷ e.0 ∷ [])) in omega (arith, z)))
+
 -- ---- the record fits
 
 module _ {v d : View} {run : Span} {p : ℕ} {side : Side} {t q : Ref} {part : Digit} {size : ℕ} (w : Hung v d run p side t q part size) (family : Family) (k : TailAsk v run side t part family) where
@@ -291,16 +298,9 @@ module _ {v d : View} {run : Span} {p : ℕ} {side : Side} {t q : Ref} {part : D
       nodes : AllByRecursion (IsElement v.seen (suc k.depth) run.next) (digit_list part)
       nodes = rw (without_nodes side t.0 (digit_list part)) at k.middle.nodes
 
-      -- an element of the digit
-      first_of : (f : Few) → AllByRecursion (IsElement v.seen (suc k.depth) run.next) (few_list f) → (e : ℕ) × IsElement v.seen (suc k.depth) run.next e × (length (means (recs v.seen) e) ≤ length (flat_map (means (recs v.seen)) (few_list f)))
-      first_of (few.One a) h = (a.0, h.0, (let z = length-append (means (recs v.seen) a.0) [] in omega (arith, z)))
-      first_of (few.Two a b) h = (a.0, h.0, (let z = length-append (means (recs v.seen) a.0) (flat_map (means (recs v.seen)) (b.0 ∷ [])) in omega (arith, z)))
-      first_of (few.Three a b c) h = (a.0, h.0, (let z = length-append (means (recs v.seen) a.0) (flat_map (means (recs v.seen)) (b.0 ∷ c.0 ∷ [])) in omega (arith, z)))
-      first_of (few.Four a b c e) h = (a.0, h.0, (let z = length-append (means (recs v.seen) a.0) (flat_map (means (recs v.seen)) (b.0 ∷ c.0 ∷ e.0 ∷ [])) in omega (arith, z)))
-
       depth_few : suc k.depth < 31
       depth_few =
-          let e = first_of (digit_few part) nodes in
+          let e = first_of (suc k.depth) run.next (digit_few part) nodes in
           let i = ap length (without_items (means (recs v.seen)) side t.0 (digit_list part)) in
           let j = both_length side (means (recs v.seen) t.0) (flat_map (means (recs v.seen)) (digit_list part)) in
           level_few w.law0 (suc k.depth) run.next e.0 e.1 (omega (arith, e.2, i, j, k.middle.small))

@@ -117,12 +117,14 @@ rest_open (levels.Deep (digits.Old _ _) (middles.PushL _ _) (digits.Old _ _)) h 
 rest_open (levels.Deep (digits.Old _ _) (middles.PushR _ _) (digits.Old _ _)) h = absurd (true≢false (sym h))
 rest_open (levels.Deep (digits.Old _ _) (middles.Tail _ _ _) (digits.Old _ _)) h = absurd (true≢false (sym h))
 rest_open (levels.Deep (digits.Old _ _) (middles.Shorter _ _ _ _) (digits.Old _ _)) h = absurd (true≢false (sym h))
+rest_open (levels.Deep (digits.Old _ _) (middles.Between _ _ _) (digits.Old _ _)) h = absurd (true≢false (sym h))
 rest_open (levels.Deep (digits.New _) m r) h = absurd (true≢false (sym h))
 rest_open (levels.Deep (digits.Old _ _) (middles.Tree _) (digits.New _)) h = absurd (true≢false (sym h))
 rest_open (levels.Deep (digits.Old _ _) (middles.PushL _ _) (digits.New _)) h = absurd (true≢false (sym h))
 rest_open (levels.Deep (digits.Old _ _) (middles.PushR _ _) (digits.New _)) h = absurd (true≢false (sym h))
 rest_open (levels.Deep (digits.Old _ _) (middles.Tail _ _ _) (digits.New _)) h = absurd (true≢false (sym h))
 rest_open (levels.Deep (digits.Old _ _) (middles.Shorter _ _ _ _) (digits.New _)) h = absurd (true≢false (sym h))
+rest_open (levels.Deep (digits.Old _ _) (middles.Between _ _ _) (digits.New _)) h = absurd (true≢false (sym h))
 
 pub record PushAll (side : Side) (es : Pushed) (made : Made) : Type 1 where
   pub elements : (P : ℕ → Type 0) → AllByRecursion P (pushed_list es) → AllByRecursion P (elements_in made) → AllByRecursion P (elements_in (push_all side (pushed_list es) made))

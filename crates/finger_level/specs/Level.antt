@@ -1,5 +1,5 @@
 -- Levels of finger trees, as plain values.
-use Rattle.std.specs.Prelude.{ℕ, suc, ◌+◌, Bool, true, false, Option, Some, None, List, [], ◌∷◌, ◌++◌, option_map, flat_map, length}
+use Rattle.std.specs.Prelude.{ℕ, suc, ◌+◌, ◌-◌, Bool, true, false, Option, Some, None, List, [], ◌∷◌, ◌++◌, option_map, flat_map, length}
 use Rattle.lazy_rec.specs.declared.places.Ref.{Ref}
 use Rattle.heap_store.specs.Completion as top
 use Rattle.heap_store.specs.Completion.{Made}
@@ -8,6 +8,7 @@ use Rattle.finger_level.specs.declared.level.Digit.{Digit}
 use Rattle.finger_level.specs.declared.level.Digit.TheVariants as digits
 use Rattle.finger_level.specs.declared.level.Nodes.{Nodes}
 use Rattle.finger_level.specs.declared.level.Nodes.TheVariants as nodes
+use Rattle.finger_level.specs.declared.level.NodeRow.{NodeRow}
 use Rattle.finger_level.specs.declared.level.Middle.{Middle}
 use Rattle.finger_level.specs.declared.level.Middle.TheVariants as middles
 use Rattle.finger_level.specs.declared.level.Level.{Level}
@@ -31,6 +32,14 @@ abbrev pub nodes_list : Nodes → List (List ℕ)
 nodes_list (nodes.One n) = group_list n ∷ []
 nodes_list (nodes.Two n m) = group_list n ∷ group_list m ∷ []
 
+-- and of each node of a row
+abbrev pub rest_of_row : Option Nodes → List (List ℕ)
+rest_of_row None = []
+rest_of_row (Some ns) = nodes_list ns
+
+abbrev pub row_list : NodeRow → List (List ℕ)
+row_list row = nodes_list row.near ++ rest_of_row row.far
+
 abbrev pub tree_of : Option Ref → Option ℕ
 tree_of t = option_map (λ (p : Ref). p.0) t
 
@@ -50,6 +59,7 @@ middle_of (middles.PushL t ns) = top.push_left (tree_of t) (nodes_list ns)
 middle_of (middles.PushR t ns) = top.push_right (tree_of t) (nodes_list ns)
 middle_of (middles.Tail side t d) = without side t.0 (digit_list d)
 middle_of (middles.Shorter side l t r) = shorter side (digit_list l) t.0 (digit_list r)
+middle_of (middles.Between l row r) = top.between l.0 r.0 (row_list row)
 
 abbrev pub made_of : Level → Made
 made_of levels.Empty = top.empty
@@ -68,13 +78,26 @@ middle_takes_right (middles.Tree _) = true
 middle_takes_right (middles.PushR _ (nodes.One _)) = true
 middle_takes_right _ = false
 
-abbrev pub takes_left : Level → Bool
-takes_left (levels.Deep _ m _) = middle_takes_left m
-takes_left _ = true
+-- how many elements can be pushed onto an end. Each one that overflows puts a node of three into the middle, which takes two
+abbrev pub middle_room_left : Middle → ℕ
+middle_room_left (middles.Tree _) = 10
+middle_room_left (middles.PushL _ (nodes.One _)) = 7
+middle_room_left (middles.PushL _ (nodes.Two _ _)) = 4
+middle_room_left _ = 0
 
-abbrev pub takes_right : Level → Bool
-takes_right (levels.Deep _ m _) = middle_takes_right m
-takes_right _ = true
+abbrev pub middle_room_right : Middle → ℕ
+middle_room_right (middles.Tree _) = 10
+middle_room_right (middles.PushR _ (nodes.One _)) = 7
+middle_room_right (middles.PushR _ (nodes.Two _ _)) = 4
+middle_room_right _ = 0
+
+abbrev pub room_left : Level → ℕ
+room_left (levels.Deep l m _) = middle_room_left m - length (digit_list l)
+room_left _ = 10
+
+abbrev pub room_right : Level → ℕ
+room_right (levels.Deep _ m r) = middle_room_right m - length (digit_list r)
+room_right _ = 10
 
 -- ---- places
 
@@ -87,12 +110,20 @@ abbrev pub nodes_places : Nodes → ℕ
 nodes_places (nodes.One _) = 1
 nodes_places (nodes.Two _ _) = 2
 
+abbrev pub rest_places : Option Nodes → ℕ
+rest_places None = 0
+rest_places (Some ns) = nodes_places ns
+
+abbrev pub row_places : NodeRow → ℕ
+row_places row = nodes_places row.near + rest_places row.far
+
 abbrev pub middle_places : Middle → ℕ
 middle_places (middles.Tree _) = 0
 middle_places (middles.PushL _ ns) = suc (nodes_places ns)
 middle_places (middles.PushR _ ns) = suc (nodes_places ns)
 middle_places (middles.Tail _ _ d) = suc (digit_places d)
 middle_places (middles.Shorter _ l _ r) = suc (digit_places l + digit_places r)
+middle_places (middles.Between _ row _) = suc (suc (row_places row))
 
 abbrev pub places_of : Level → ℕ
 places_of levels.Empty = 0
@@ -108,6 +139,7 @@ all_of ns = flat_map (λ n. n) ns
 abbrev pub middle_elements : top.Middle → List ℕ
 middle_elements (top.push_left t ns) = all_of ns
 middle_elements (top.push_right t ns) = all_of ns
+middle_elements (top.between l r ns) = all_of ns
 middle_elements _ = []
 
 -- those of a level
@@ -125,6 +157,7 @@ abbrev pub middle_trees : top.Middle → List ℕ
 middle_trees (top.tree t) = if_there t
 middle_trees (top.push_left t ns) = if_there t
 middle_trees (top.push_right t ns) = if_there t
+middle_trees (top.between l r ns) = l ∷ r ∷ []
 middle_trees _ = []
 
 -- and those of a level
@@ -175,7 +208,8 @@ items_of_made f (top.deep l m r) = flat_map f l ++ middle_items f m ++ flat_map 
 
 -- ---- places of a level that is made
 
--- those of its middle: each node, and a suspension; or what is left of a tree
+-- those of its middle: each node, and a suspension; or what is left of a tree. A list between two middles is a digit, which is
+-- the new one: those of the level stand
 abbrev pub made_middle_places : top.Middle → ℕ
 made_middle_places (top.push_left t ns) = suc (length ns)
 made_middle_places (top.push_right t ns) = suc (length ns)
@@ -183,6 +217,7 @@ made_middle_places (top.without_left t d) = 1
 made_middle_places (top.without_right t d) = 1
 made_middle_places (top.shorter_left l t r) = 2
 made_middle_places (top.shorter_right l t r) = 2
+made_middle_places (top.between l r ns) = suc (length ns)
 made_middle_places _ = 0
 
 -- those of a level, of which one digit is new and the other takes so many

@@ -5,3 +5,4 @@ pub mod Keyed
 pub mod Pushes
 pub mod Puts
 pub mod Pops
+pub mod Concat

@@ -1,5 +1,5 @@
 -- Elements pushed onto the level that a value shows.
-use Rattle.std.specs.Prelude.{◌≡◌, ℕ, Bool, List, [], ◌∷◌, ◌++◌}
+use Rattle.std.specs.Prelude.{◌≡◌, ◌≤◌, ℕ, Bool, List, [], ◌∷◌, ◌++◌}
 use Rattle.heap_store.specs.World.{World}
 use Rattle.heap_store.specs.Completion as top
 use Rattle.heap_store.specs.Completion.{Made, elements}
@@ -33,6 +33,7 @@ pub record IsPushed (w : World) (side : Side) (es : Pushed) (q : ℕ) (level : L
   pub read : LevelRead w q before
   pub made : made_of level ≡ push_all side (pushed_list es) (made_of before)
   pub places : places_of level ≡ made_places (kept_of (made_of before)) (made_of level)
+  pub most : places_of level ≤ 6
   pub there : AreThere w level
   pub under : (limit : ℕ) → AreUnder limit before → AreUnder limit level
   pub keyed : (k : Bool) → HasKeys k w q → AreKeyed k w (pushed_list es) → KeyedLevel k w level

@@ -1,9 +1,9 @@
 -- What the puts of a level and of its parts ask and make.
-use Rattle.std.specs.Prelude.{◌≡◌, ℕ, suc, ◌+◌, ◌<◌, ◌≤◌, true, Option, Some, None, List, ◌++◌, length, flat_map}
+use Rattle.std.specs.Prelude.{◌≡◌, ℕ, suc, ◌+◌, ◌<◌, ◌≤◌, true, Option, Some, None, List, [], ◌++◌, length, flat_map}
 use Rattle.std.specs.List.{AllByRecursion}
 use Rattle.lazy_rec.specs.declared.places.Ref.{Ref}
 use Rattle.lazy_rec.specs.declared.records.Rec.{Rec}
-use Rattle.lazy_rec.specs.declared.records.Rec.TheVariants.{Deep, PushL, PushR, DeepL, DeepR}
+use Rattle.lazy_rec.specs.declared.records.Rec.TheVariants.{Deep, PushL, PushR, DeepL, DeepR, Concat}
 use Rattle.lazy_rec.specs.Meaning.{means}
 use Rattle.lazy_rec.specs.Units.{family_of}
 use Rattle.heap_store.specs.Span.{Span}
@@ -15,6 +15,7 @@ use Rattle.heap_store.specs.Hand.{IsInHand}
 use Rattle.heap_store.specs.View.{View}
 use Rattle.heap_store.specs.Jobs.{Filled, IsUnpassed}
 use Rattle.lazy_rec.specs.Numbers.{bits}
+use Rattle.finger_level.specs.declared.few.Few.{Few}
 use Rattle.finger_level.specs.declared.few.Group.{Group}
 use Rattle.finger_level.specs.declared.few.Weight.{Weight}
 use Rattle.finger_level.specs.declared.level.Digit.{Digit}
@@ -23,14 +24,15 @@ use Rattle.finger_level.specs.declared.level.Level.{Level}
 use Rattle.finger_level.specs.declared.level.Level.TheVariants as levels
 use Rattle.finger_level.specs.declared.level.Nodes.{Nodes}
 use Rattle.finger_level.specs.declared.level.Nodes.TheVariants as nodes
+use Rattle.finger_level.specs.declared.level.NodeRow.{NodeRow}
 use Rattle.finger_level.specs.declared.level.Side.{Side}
 use Rattle.finger_level.specs.declared.level.Side.TheVariants as sides
 use Rattle.finger_level.specs.declared.level.Pushed.{Pushed}
 use Rattle.finger_level.specs.declared.level.Pushed.TheVariants as pushes
 use Rattle.finger_level.specs.declared.level.Family.{Family}
 use Rattle.finger_level.specs.declared.level.Family.TheVariants.{First, Later}
-use Rattle.finger_level.specs.Few.{no_place, node_record}
-use Rattle.finger_level.specs.Level.{digit_few, digit_list, digit_places, without, shorter, middle_nodes, middle_inner, nodes_in, inner_in, middle_places, places_of, made_of, elements_in, trees_in, items_of_made, middle_elements, middle_trees, middle_items, tree_of, nodes_list, nodes_places, middle_of}
+use Rattle.finger_level.specs.Few.{few_list, no_place, node_record}
+use Rattle.finger_level.specs.Level.{digit_few, digit_list, digit_places, without, shorter, middle_nodes, middle_inner, nodes_in, inner_in, middle_places, places_of, made_of, elements_in, trees_in, items_of_made, middle_elements, middle_trees, middle_items, tree_of, nodes_list, nodes_places, row_list, row_places, middle_of}
 use Rattle.finger_level.specs.Reads.{is_element, is_tree_rec, is_tree_value, IsDigitAt, IsNodeAt, IsThere, IsUnder, IsThereMiddle, IsUnderMiddle, AreUnder, AreThere}
 use Rattle.finger_level.specs.Pushes.{pushed_list}
 
@@ -200,6 +202,37 @@ pub record ShorterAsk (v : View) (run : Span) (side : Side) (l : Digit) (t : Ref
   pub under : IsUnder run.next l × IsUnder run.next r
   pub held : IsInHand v.hand run
   pub room : run.next + suc (digit_places l + digit_places r) ≤ run.end
+
+-- the nodes of a row, each at its place
+abbrev pub IsRestAt : World → Option Nodes → List ℕ → Type 0
+IsRestAt w None ps = ps ≡ []
+IsRestAt w (Some ns) ps = (es : Pushed) × AreNodesAt w ns es × (pushed_list es ≡ ps)
+
+pub record IsRowAt (w : World) (row : NodeRow) (es : Few) : Type 0 where
+  pub near : Pushed
+  pub near_at : AreNodesAt w row.near near
+  pub far : List ℕ
+  pub far_at : IsRestAt w row.far far
+  pub both : few_list es ≡ pushed_list near ++ far
+
+-- a row of nodes was put
+pub record RowPut (old new : View) (before after : Span) (row : NodeRow) (es : Few) : Type 0 where
+  pub laid : Laid old new before after (row_places row)
+  pub under : AllByRecursion (λ e. e < after.next) (few_list es)
+  pub shown : IsRowAt new.seen row es
+
+-- the record of a suspended concatenation, of two trees and the digit between them
+abbrev pub concat_record : Ref → Ref → Ref → Ref → ℕ → Weight → Rec
+concat_record l q r o off w = Concat l r q o off w.size w.key
+
+-- what the put of a suspended concatenation asks
+pub record BetweenAsk (v : View) (run : Span) (l : Ref) (row : NodeRow) (r : Ref) (family : Family) : Type 0 where
+  pub depth : ℕ
+  pub middle : IsMiddle v.seen depth run.next (top.between l.0 r.0 (row_list row))
+  pub follows : IsFamily v depth run.next family (top.between l.0 r.0 (row_list row))
+  pub credits : units_shown family (length (middle_items (means (recs v.seen)) (top.between l.0 r.0 (row_list row)))) ≤ v.hand.credits
+  pub held : IsInHand v.hand run
+  pub room : run.next + suc (suc (row_places row)) ≤ run.end
 
 -- what the put of a deep tree's digits and record asks, whose middle stands
 pub record EndsAsk (v : View) (run : Span) (left : Digit) (below : ℕ) (right : Digit) (size : ℕ) : Type 0 where

@@ -1,5 +1,5 @@
 //! Levels of finger trees over any heap (Hinze and Paterson, Finger trees: a simple general-purpose data structure): how they
-//! are read, the pushes onto them, what pops leave of them, and how they are put.
+//! are read, the pushes onto them, what pops leave of them, two of them in one, and how they are put.
 //!
 //! A push onto a full digit keeps two elements there. Three go down as a node, in a suspended push onto the middle:
 //!
@@ -21,8 +21,19 @@
 //!               [n]
 //!          [y z]               [y z]
 //! ```
+//!
+//! Two deep trees in one, with a few elements between them, keep their outer digits. The inner ones and those elements become
+//! nodes, of three where more than four are left, and wait between the middles as a suspended concatenation:
+//!
+//! ```text
+//!     before                          after, with [d e] between
+//!     Deep [a]      Deep [f g]        Deep [a]
+//!          left          right             Concat left [(b c d) (e f g)] right
+//!          [b c]         [h]               [h]
+//! ```
 #![tactic(auto)]
 
+pub mod concat;
 pub mod few;
 pub mod level;
 pub mod pops;
@@ -30,8 +41,9 @@ pub mod pushes;
 pub mod puts;
 pub mod reads;
 
+pub use concat::concat_level;
 pub use few::{Few, Group, Weight};
-pub use level::{Digit, Family, Level, Middle, Nodes, Pushed, Side, places};
+pub use level::{Digit, Family, Level, Middle, NodeRow, Nodes, Pushed, Side, places};
 pub use pops::{Popped, drawn_level, popped_level};
 pub use pushes::pushed_level;
 pub use puts::put_level;

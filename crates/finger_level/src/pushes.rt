@@ -1,11 +1,11 @@
 //! Elements pushed onto a level, nothing of which is published yet.
-ghost use Rattle.std.specs.Prelude.{◌≡◌, ℕ, Bool, true};
+ghost use Rattle.std.specs.Prelude.{◌≡◌, ◌≤◌, ◌+◌, ℕ, suc, Bool, true};
 ghost use Rattle.heap_store.specs.World.{World, recs, holds};
 ghost use Rattle.heap_store.specs.Completion.{push_one_left, push_one_right, node_left, node_right};
 ghost use Rattle.heap_store.specs.View.{Quiet};
 ghost use Rattle.finger_level.specs.Few.{group_list};
-ghost use Rattle.finger_level.specs.Level.{made_of, middle_of, takes_left, takes_right, middle_takes_left, middle_takes_right, places_of, kept_left, kept_right, made_places};
-ghost use Rattle.finger_level.specs.Reads.{AreThere, AreUnder, IsThereMiddle, IsUnderMiddle, is_at_rest, is_tree_middle, is_tree_value};
+ghost use Rattle.finger_level.specs.Level.{made_of, middle_of, middle_takes_left, middle_takes_right, middle_room_left, middle_room_right, room_left, room_right, places_of, middle_places, kept_left, kept_right, made_places};
+ghost use Rattle.finger_level.specs.Reads.{AreThere, AreUnder, IsThereMiddle, IsUnderMiddle, is_tree_value};
 ghost use Rattle.finger_level.specs.Keyed.{HasKeys, AreKeyed, KeyedMiddle, KeyedLevel};
 ghost use Rattle.finger_level.specs.Pushes.{IsPushed};
 
@@ -17,11 +17,12 @@ use lazy_rec::Ref;
 
 /// An element pushed onto the left end. A full digit keeps two elements, and three go into the middle as a node.
 pub fn push_left(e: Ref, level: Level) -> Level
-    requires room { takes_left level ≡ true }
+    requires room { 1 ≤ room_left level }
     ensures made { made_of result ≡ push_one_left e.0 (made_of level) }
     ensures kept { kept_right result ≡ kept_right level }
     ensures places { places_of result ≡ made_places (kept_right level) (made_of result) }
-    ensures more { is_at_rest level ≡ true → takes_left result ≡ true }
+    ensures more { room_left level ≤ suc (room_left result) }
+    ensures most { places_of result ≤ 6 }
     ensures stands { (w : World) → AreThere w level → AreThere w result }
     ensures under { (limit : ℕ) → AreUnder limit level → AreUnder limit result }
     ensures keys { (k : Bool) (w : World) → HasKeys k w e.0 → KeyedLevel k w level → KeyedLevel k w result }
@@ -55,11 +56,12 @@ pub fn push_left(e: Ref, level: Level) -> Level
 
 /// An element pushed onto the right end.
 pub fn push_right(level: Level, e: Ref) -> Level
-    requires room { takes_right level ≡ true }
+    requires room { 1 ≤ room_right level }
     ensures made { made_of result ≡ push_one_right (made_of level) e.0 }
     ensures kept { kept_left result ≡ kept_left level }
     ensures places { places_of result ≡ made_places (kept_left level) (made_of result) }
-    ensures more { is_at_rest level ≡ true → takes_right result ≡ true }
+    ensures more { room_right level ≤ suc (room_right result) }
+    ensures most { places_of result ≤ 6 }
     ensures stands { (w : World) → AreThere w level → AreThere w result }
     ensures under { (limit : ℕ) → AreUnder limit level → AreUnder limit result }
     ensures keys { (k : Bool) (w : World) → HasKeys k w e.0 → KeyedLevel k w level → KeyedLevel k w result }
@@ -96,7 +98,8 @@ pub fn push_right(level: Level, e: Ref) -> Level
 fn node_left(node: Group, middle: Middle) -> Middle
     requires room { middle_takes_left middle ≡ true }
     ensures made { middle_of result ≡ node_left (group_list node) (middle_of middle) }
-    ensures more { is_tree_middle middle ≡ true → middle_takes_left result ≡ true }
+    ensures more { middle_room_left middle ≤ 3 + middle_room_left result }
+    ensures most { middle_places result ≤ 3 }
     ensures stands { (w : World) → IsThereMiddle w result }
     ensures under { (limit : ℕ) → IsUnderMiddle limit result }
     ensures keys { (k : Bool) (w : World) → AreKeyed k w (group_list node) → KeyedMiddle k w middle → KeyedMiddle k w result }
@@ -120,7 +123,8 @@ fn node_left(node: Group, middle: Middle) -> Middle
 fn node_right(node: Group, middle: Middle) -> Middle
     requires room { middle_takes_right middle ≡ true }
     ensures made { middle_of result ≡ node_right (group_list node) (middle_of middle) }
-    ensures more { is_tree_middle middle ≡ true → middle_takes_right result ≡ true }
+    ensures more { middle_room_right middle ≤ 3 + middle_room_right result }
+    ensures most { middle_places result ≤ 3 }
     ensures stands { (w : World) → IsThereMiddle w result }
     ensures under { (limit : ℕ) → IsUnderMiddle limit result }
     ensures keys { (k : Bool) (w : World) → AreKeyed k w (group_list node) → KeyedMiddle k w middle → KeyedMiddle k w result }

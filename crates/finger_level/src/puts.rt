@@ -1,20 +1,21 @@
 //! What is published of a tree.
-ghost use Rattle.std.specs.Prelude.{Bool, ◌≡◌, ◌<◌, ◌≤◌, ◌+◌, ℕ, suc, true, map, length, flat_map};
+ghost use Rattle.std.specs.Prelude.{Bool, ◌≡◌, ◌<◌, ◌≤◌, ◌+◌, ◌++◌, ℕ, suc, true, map, length, flat_map};
 ghost use Rattle.std.specs.List.{AllByRecursion};
 ghost use Rattle.lazy_rec.specs.declared.places.Ref.{Ref};
 ghost use Rattle.lazy_rec.specs.Meaning.{means};
 ghost use Rattle.heap_store.specs.World.{recs, holds};
+ghost use Rattle.heap_store.specs.Completion.{between};
 ghost use Rattle.heap_store.specs.Hand.{IsInHand};
 ghost use Rattle.heap_store.specs.View.{Quiet};
 ghost use Rattle.finger_level.specs.Few.{few_list, group_list};
-ghost use Rattle.finger_level.specs.Level.{all_of, if_there, tree_of, made_of, items_of_made, digit_list, digit_places, without, shorter, nodes_list, nodes_places, middle_of, middle_places};
+ghost use Rattle.finger_level.specs.Level.{all_of, if_there, tree_of, made_of, items_of_made, digit_list, digit_places, without, shorter, nodes_list, nodes_places, row_list, row_places, middle_of, middle_places};
 ghost use Rattle.finger_level.specs.Keyed.{HasKeys, AreKeyed, KeyedDigit, KeyedMiddle, KeyedLevel, key_in};
 ghost use Rattle.finger_level.specs.Reads.{cached_key, is_element, is_tree_rec, IsThere, IsUnder, cached_size};
-ghost use Rattle.finger_level.specs.Puts.{PartAsk, NodePut, DigitPut, IsMiddle, IsFamily, MiddlePut, push_record, push_middle, NodesPut, PushAsk, tail_record, TailAsk, ShorterAsk, EndsAsk, EndsPut, MiddleAsk, tree_at, LevelAsk, LevelPut};
+ghost use Rattle.finger_level.specs.Puts.{PartAsk, NodePut, DigitPut, IsMiddle, IsFamily, MiddlePut, push_record, push_middle, NodesPut, PushAsk, tail_record, TailAsk, ShorterAsk, RowPut, concat_record, BetweenAsk, EndsAsk, EndsPut, MiddleAsk, tree_at, LevelAsk, LevelPut};
 ghost use Rattle.finger_level.specs.Pushes.{pushed_list};
 
 use crate::few::{Few, Group, Weight, digit, node};
-use crate::level::{Digit, Family, Level, Middle, Nodes, Pushed, Side, few_of};
+use crate::level::{Digit, Family, Level, Middle, NodeRow, Nodes, Pushed, Side, few_of};
 use crate::reads::weigh;
 use heap_store::{Heap, Run};
 use lazy_rec::{Item, Rec, Ref};
@@ -321,6 +322,109 @@ fn put_shorter<H: Heap>(
     put_ends(h, left, tree, right, whole, keyed, run)
 }
 
+/// The places of one or two elements, and then of one or two more.
+fn few_of_pushed(near: Pushed) -> Few
+    ensures { few_list result ≡ pushed_list near }
+{
+    match near {
+        Pushed::One(a) => Few::One(a),
+        Pushed::Two(a, b) => Few::Two(a, b),
+    }
+}
+
+fn few_of_both(near: Pushed, far: Pushed) -> Few
+    ensures { few_list result ≡ pushed_list near ++ pushed_list far }
+{
+    match near {
+        Pushed::One(a) => match far {
+            Pushed::One(b) => Few::Two(a, b),
+            Pushed::Two(b, c) => Few::Three(a, b, c),
+        },
+        Pushed::Two(a, b) => match far {
+            Pushed::One(c) => Few::Three(a, b, c),
+            Pushed::Two(c, d) => Few::Four(a, b, c, d),
+        },
+    }
+}
+
+/// Publishes a row of nodes.
+fn put_row<H: Heap>(h: &mut H, row: NodeRow, keyed: bool, run: &mut Run) -> Few
+    requires { PartAsk (H.view h.old) run.old (row_places row) (all_of (row_list row)) }
+    ensures put { RowPut (H.view h.old) (H.view h.new) run.old run.new row result }
+    ensures keys { AreKeyed keyed (H.view h.old).seen (all_of (row_list row)) → AreKeyed keyed (H.view h.new).seen (few_list result) }
+{
+    let near = put_nodes(h, row.near, keyed, run);
+    match row.far {
+        None => few_of_pushed(near),
+        Some(nodes) => {
+            let far = put_nodes(h, nodes, keyed, run);
+            few_of_both(near, far)
+        }
+    }
+}
+
+/// The weight of two trees and the elements between them.
+fn weigh_between<H: Heap>(h: &mut H, left: Ref, es: Few, right: Ref, keyed: bool) -> Weight
+    requires left { holds (recs (H.view h.old).seen) left.0 is_tree_rec ≡ true }
+    requires right { holds (recs (H.view h.old).seen) right.0 is_tree_rec ≡ true }
+    requires elements { AllByRecursion (λ e. holds (recs (H.view h.old).seen) e is_element ≡ true) (few_list es) }
+    requires small { length (means (recs (H.view h.old).seen) left.0) + length (flat_map (means (recs (H.view h.old).seen)) (few_list es)) + length (means (recs (H.view h.old).seen) right.0) ≤ 2147483647 }
+    ensures quiet { Quiet (H.view h.old) (H.view h.new) }
+    ensures size { result.size ≡ length (means (recs (H.view h.old).seen) left.0) + length (flat_map (means (recs (H.view h.old).seen)) (few_list es)) + length (means (recs (H.view h.old).seen) right.0) }
+    ensures key { HasKeys keyed (H.view h.old).seen left.0 → AreKeyed keyed (H.view h.old).seen (few_list es) → HasKeys keyed (H.view h.old).seen right.0 → result.key.0 ≡ key_in keyed (means (recs (H.view h.old).seen) left.0 ++ flat_map (means (recs (H.view h.old).seen)) (few_list es) ++ means (recs (H.view h.old).seen) right.0) }
+{
+    let list = weigh_few(h, es, keyed);
+    let first = weigh_tree(h, left);
+    let last = weigh_tree(h, right);
+    let above = list.size + first.size;
+    let size = above + last.size;
+    let near = first.key.0.max(list.key.0);
+    let key = Item(near.max(last.key.0));
+    Weight { size, key }
+}
+
+fn concat(left: Ref, list: Ref, right: Ref, origin: Ref, off: u8, weight: Weight) -> Rec
+    ensures { result ≡ concat_record left list right origin off weight }
+{
+    Rec::Concat {
+        left,
+        right,
+        list,
+        origin,
+        off,
+        size: weight.size,
+        key: weight.key,
+    }
+}
+
+/// Publishes nodes, and the suspended concatenation of two middles with them between.
+fn put_between<H: Heap>(
+    h: &mut H,
+    left: Ref,
+    row: NodeRow,
+    right: Ref,
+    family: Family,
+    keyed: bool,
+    run: &mut Run,
+) -> Ref
+    requires { BetweenAsk (H.view h.old) run.old left row right family }
+    ensures put { MiddlePut (H.view h.old) (H.view h.new) run.old run.new family (suc (suc (row_places row))) (between left.0 right.0 (row_list row)) result.0 }
+    ensures keys { HasKeys keyed (H.view h.old).seen left.0 → AreKeyed keyed (H.view h.old).seen (all_of (row_list row)) → HasKeys keyed (H.view h.old).seen right.0 → HasKeys keyed (H.view h.new).seen result.0 }
+{
+    let es = put_row(h, row, keyed, run);
+    let list = put_digit(h, Digit::New(es), keyed, run);
+    let weight = weigh_between(h, left, es, right, keyed);
+    match family {
+        Family::First => {
+            let origin = run.next();
+            h.put(run, concat(left, list, right, origin, 0, weight))
+        }
+        Family::Later { origin, off, .. } => {
+            h.put(run, concat(left, list, right, origin, off + 1, weight))
+        }
+    }
+}
+
 /// Publishes a middle.
 pub fn put_middle<H: Heap>(
     h: &mut H,
@@ -344,6 +448,9 @@ pub fn put_middle<H: Heap>(
             tree,
             right,
         } => put_shorter(h, side, left, tree, right, family, keyed, run),
+        Middle::Between { left, row, right } => {
+            put_between(h, left, row, right, family, keyed, run)
+        }
     }
 }
 

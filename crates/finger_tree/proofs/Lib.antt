@@ -1,3 +1,4 @@
 pub mod Works
 pub mod PushWorks
 pub mod TailWorks
+pub mod ConcatWorks

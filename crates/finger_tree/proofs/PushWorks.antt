@@ -14,6 +14,7 @@ use Rattle.heap_store.specs.Lawful.{IsLawful, level_of, is_of_level, level_from,
 use Rattle.heap_store.proofs.NameLaws.{IsNamedWell}
 use Rattle.heap_store.proofs.GrowthLaws.{at_true, grows_refl}
 use Rattle.heap_store.proofs.LawfulLaws.{lawful_names}
+use Rattle.heap_store.proofs.MadeLaws.{top_at_up}
 use Rattle.heap_store.proofs.MeaningLaws.{means_is}
 use Rattle.finger_level.specs.declared.few.Weight.{Weight}
 use Rattle.finger_level.specs.declared.level.Level.{Level}
@@ -37,19 +38,19 @@ use Rattle.finger_level.proofs.Suspending.{PushLow, push_size}
 use Rattle.finger_level.proofs.Pushing.{push_level, push_means, push_tree}
 use Rattle.finger_level.proofs.Tops.{top_well, rest_open, push_all_well}
 use Rattle.finger_tree.specs.declared.push.Push.{Push}
-use Rattle.finger_tree.specs.Work.{kept_by, suspended}
+use Rattle.finger_tree.specs.Work.{kept_by, shown_by, suspended}
 use Rattle.finger_tree.proofs.Works.{Shape, Waited, Makes, shown_at, value_there}
 
 -- ---- a suspended push in the world
 
-pub shape : (p : Push) → Shape (suspended p) p.tree.0 p.origin p.off p.weight.key.0
+pub shape : (p : Push) → Shape (suspended p) (p.tree.0 ∷ []) p.origin p.off p.weight.key.0
 shape p = by p.side p.es
   where
-    by : (side : Side) (es : Pushed) → Shape (push_record side p.tree es p.origin p.off p.weight) p.tree.0 p.origin p.off p.weight.key.0
-    by sides.Left (pushes.One e) = record { waits = refl; tree = refl; family = λ q. refl; waited_for = refl; needs = λ w. refl; not_fixed = refl; most = refl; one_step = refl; key_is = refl; cells = λ f. refl; made = λ w s q. refl; cursor = λ a b c h. h }
-    by sides.Left (pushes.Two e f) = record { waits = refl; tree = refl; family = λ q. refl; waited_for = refl; needs = λ w. refl; not_fixed = refl; most = refl; one_step = refl; key_is = refl; cells = λ f. refl; made = λ w s q. refl; cursor = λ a b c h. h }
-    by sides.Right (pushes.One e) = record { waits = refl; tree = refl; family = λ q. refl; waited_for = refl; needs = λ w. refl; not_fixed = refl; most = refl; one_step = refl; key_is = refl; cells = λ f. refl; made = λ w s q. refl; cursor = λ a b c h. h }
-    by sides.Right (pushes.Two e f) = record { waits = refl; tree = refl; family = λ q. refl; waited_for = refl; needs = λ w. refl; not_fixed = refl; most = refl; one_step = refl; key_is = refl; cells = λ f. refl; made = λ w s q. refl; cursor = λ a b c h. h }
+    by : (side : Side) (es : Pushed) → Shape (push_record side p.tree es p.origin p.off p.weight) (p.tree.0 ∷ []) p.origin p.off p.weight.key.0
+    by sides.Left (pushes.One e) = record { waits = refl; tree = refl; family = λ q. refl; needs = λ w. refl; told_up = λ a b n g m h. top_at_up a b n g p.tree.0 m h; not_fixed = refl; most = refl; one_step = refl; key_is = refl; cells = λ f. refl; made = λ w s q. refl; cursor = λ a b c h. h }
+    by sides.Left (pushes.Two e f) = record { waits = refl; tree = refl; family = λ q. refl; needs = λ w. refl; told_up = λ a b n g m h. top_at_up a b n g p.tree.0 m h; not_fixed = refl; most = refl; one_step = refl; key_is = refl; cells = λ f. refl; made = λ w s q. refl; cursor = λ a b c h. h }
+    by sides.Right (pushes.One e) = record { waits = refl; tree = refl; family = λ q. refl; needs = λ w. refl; told_up = λ a b n g m h. top_at_up a b n g p.tree.0 m h; not_fixed = refl; most = refl; one_step = refl; key_is = refl; cells = λ f. refl; made = λ w s q. refl; cursor = λ a b c h. h }
+    by sides.Right (pushes.Two e f) = record { waits = refl; tree = refl; family = λ q. refl; needs = λ w. refl; told_up = λ a b n g m h. top_at_up a b n g p.tree.0 m h; not_fixed = refl; most = refl; one_step = refl; key_is = refl; cells = λ f. refl; made = λ w s q. refl; cursor = λ a b c h. h }
 
 kept : (p : Push) (m : Made) → kept_by (suspended p) m ≡ kept_of m
 kept p m = by p.side p.es
@@ -123,10 +124,24 @@ push_makes w p shown e = by p.side p.es
     by sides.Right (pushes.One x) = rw e refl
     by sides.Right (pushes.Two x y) = rw e refl
 
+-- the level that it is told by
+shown_push : (w : World) (p : Push) (m : Made) → top_at w p.tree.0 ≡ Some m → shown_by w (suspended p) ≡ Some m
+shown_push w p m h = by p.side p.es
+  where
+    by : (side : Side) (es : Pushed) → shown_by w (push_record side p.tree es p.origin p.off p.weight) ≡ Some m
+    by sides.Left (pushes.One x) = h
+    by sides.Left (pushes.Two x y) = h
+    by sides.Right (pushes.One x) = h
+    by sides.Right (pushes.Two x y) = h
+
 pub waited : {w : World} → IsLawful w → (s : ℕ) (p : Push) → recs w s ≡ Some (suspended p) → Waited w p.tree.0 p.origin
 waited law s p e = let f = push_facts law s p e in record { sort = f.tree.sort; low = f.low.tree }
 
 -- ---- the level that it makes
+
+pub low_elements : (w : World) (m o : ℕ) (es : List ℕ) → m < o → AllByRecursion (λ e. height (recs w) e ≤ m) es → AllByRecursion (λ e. height (recs w) e < o) es
+low_elements w m o [] lt h = tt
+low_elements w m o (e ∷ es) lt h = (omega (arith, h.0, lt), low_elements w m o es lt h.1)
 
 record LevelWell (w : World) (s : ℕ) (p : Push) (limit : ℕ) (made : Made) : Type 0 where
   parts : IsLevel w (level_from (level (recs w)) (suspended p)) limit made
@@ -170,9 +185,10 @@ push_works {w} law s q p made_level e k m =
     record {
       here = e;
       shown = made_of m.before;
-      top = rw (shape p).waited_for shown;
+      top = shown_push w p (made_of m.before) shown;
       made = push_makes w p _ shown ∙ ap Some (sym m.made);
       places = rw (kept p (made_of m.before)) m.places;
+      most = omega (arith, m.most);
       there = m.there;
       under = λ limit sl ql. m.under limit (under_level q limit (omega (arith, ql)) m.before m.read.under);
       parts = λ limit sl ql. (well limit sl ql).parts;

@@ -1,5 +1,5 @@
 -- Suspended tails: what their records say, and the level that they make.
-use Rattle.std.proofs.Common.{◌≡◌, ℕ, suc, ◌+◌, ◌<◌, ◌≤◌, ltb, refl, sym, ap, ◌∙◌, arith, Bool, true, Some, None, length}
+use Rattle.std.proofs.Common.{◌≡◌, ℕ, suc, ◌+◌, ◌<◌, ◌≤◌, ltb, refl, sym, ap, ◌∙◌, arith, Bool, true, Some, None, [], ◌∷◌, length}
 use Rattle.std.specs.List.{AllByRecursion, list_all}
 use Rattle.std.proofs.lemmas.Bool.{and_parts, eqb-true, ltb-true}
 use Rattle.lazy_rec.specs.declared.places.Ref.{Ref}
@@ -8,11 +8,12 @@ use Rattle.lazy_rec.specs.Named.{NamedPlace, named, same_sort}
 use Rattle.lazy_rec.specs.Meaning.{means}
 use Rattle.lazy_rec.proofs.HistoryLaws.{all_true}
 use Rattle.heap_store.specs.World.{World, recs, holds}
-use Rattle.heap_store.specs.Completion.{Made, elements, made_tree}
+use Rattle.heap_store.specs.Completion.{Made, elements, made_tree, top_at}
 use Rattle.heap_store.specs.Lawful.{IsLawful, level_of, is_of_level, level_from, level, height, has_low_names, is_finger}
 use Rattle.heap_store.proofs.NameLaws.{IsNamedWell}
 use Rattle.heap_store.proofs.GrowthLaws.{at_true}
 use Rattle.heap_store.proofs.LawfulLaws.{lawful_names}
+use Rattle.heap_store.proofs.MadeLaws.{top_at_up}
 use Rattle.heap_store.proofs.MeaningLaws.{means_is}
 use Rattle.finger_level.specs.declared.few.Weight.{Weight}
 use Rattle.finger_level.specs.declared.level.Level.{Level}
@@ -30,17 +31,17 @@ use Rattle.finger_level.proofs.Keying.{keyed_of, value_keyed}
 use Rattle.finger_level.proofs.Pushing.{both_length}
 use Rattle.finger_level.proofs.Tails.{tail_level, tail_means, tail_size, tail_tree}
 use Rattle.finger_tree.specs.declared.tail.Tail.{Tail}
-use Rattle.finger_tree.specs.Work.{kept_by, hanging}
+use Rattle.finger_tree.specs.Work.{kept_by, shown_by, hanging}
 use Rattle.finger_tree.proofs.Works.{Shape, Waited, Makes}
 
 -- ---- a suspended tail in the world
 
-pub shape : (t : Tail) → Shape (hanging t) t.middle.0 t.origin t.off t.weight.key.0
+pub shape : (t : Tail) → Shape (hanging t) (t.middle.0 ∷ []) t.origin t.off t.weight.key.0
 shape t = by t.side
   where
-    by : (side : Side) → Shape (tail_record side t.middle t.digit t.origin t.off t.weight) t.middle.0 t.origin t.off t.weight.key.0
-    by sides.Left = record { waits = refl; tree = refl; family = λ q. refl; waited_for = refl; needs = λ w. refl; not_fixed = refl; most = refl; one_step = refl; key_is = refl; cells = λ f. refl; made = λ w s q. refl; cursor = λ a b c h. h }
-    by sides.Right = record { waits = refl; tree = refl; family = λ q. refl; waited_for = refl; needs = λ w. refl; not_fixed = refl; most = refl; one_step = refl; key_is = refl; cells = λ f. refl; made = λ w s q. refl; cursor = λ a b c h. h }
+    by : (side : Side) → Shape (tail_record side t.middle t.digit t.origin t.off t.weight) (t.middle.0 ∷ []) t.origin t.off t.weight.key.0
+    by sides.Left = record { waits = refl; tree = refl; family = λ q. refl; needs = λ w. refl; told_up = λ a b n g m h. top_at_up a b n g t.middle.0 m h; not_fixed = refl; most = refl; one_step = refl; key_is = refl; cells = λ f. refl; made = λ w s q. refl; cursor = λ a b c h. h }
+    by sides.Right = record { waits = refl; tree = refl; family = λ q. refl; needs = λ w. refl; told_up = λ a b n g m h. top_at_up a b n g t.middle.0 m h; not_fixed = refl; most = refl; one_step = refl; key_is = refl; cells = λ f. refl; made = λ w s q. refl; cursor = λ a b c h. h }
 
 kept : (t : Tail) (m : Made) → kept_by (hanging t) m ≡ drawn_kept m
 kept t m = by t.side
@@ -94,6 +95,14 @@ tail_facts {w} law s t e =
     heights sides.Left h = h
     heights sides.Right h = h
 
+-- the level that it is told by
+shown_tail : (w : World) (t : Tail) (m : Made) → top_at w t.middle.0 ≡ Some m → shown_by w (hanging t) ≡ Some m
+shown_tail w t m h = by t.side
+  where
+    by : (side : Side) → shown_by w (tail_record side t.middle t.digit t.origin t.off t.weight) ≡ Some m
+    by sides.Left = h
+    by sides.Right = h
+
 pub waited : {w : World} → IsLawful w → (s : ℕ) (t : Tail) → recs w s ≡ Some (hanging t) → Waited w t.middle.0 t.origin
 waited law s t e = let f = tail_facts law s t e in record { sort = f.middle.sort; low = f.low }
 
@@ -135,9 +144,10 @@ tail_works {w} law s q t made_level e k m =
     record {
       here = e;
       shown = m.shown;
-      top = rw ((shape t).waited_for, k.value, m.here) m.top;
+      top = shown_tail w t m.shown (rw (k.value, m.here) m.top);
       made = tail_makes t q made_level k m;
       places = rw (kept t m.shown) m.places;
+      most = omega (arith, m.most);
       there = m.there;
       under = λ limit sl ql. m.under limit ql (omega (arith, f.digit_low, sl));
       parts = λ limit sl ql. m.parts d limit (ask limit sl ql);

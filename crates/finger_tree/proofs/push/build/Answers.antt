@@ -1,4 +1,4 @@
-use Rattle.std.proofs.Common.{◌≡◌, ◌∙◌, ap, Some}
+use Rattle.std.proofs.Common.{◌≡◌, ◌∙◌, ap, Some, [], ◌∷◌}
 use Rattle.heap_store.specs.World.{recs}
 use Rattle.heap_store.specs.View.{Quiet}
 use Rattle.heap_store.proofs.Steps.{Quiet_trans}
@@ -41,20 +41,20 @@ value_at_q g c =
 works : (g : _) (c : After-pushed_level-level g) → Makes (g.H.Heap.view c.pushed_level-level.new.h).seen c.args.s.0 (suspended c.push_of-push.result) c.in-Some.q.0 c.push_of-push.result.origin c.push_of-push.result.weight c.pushed_level-level.result
 works g c = push_works (g.met.H.Heap.lawful c.pushed_level-level.new.h).world c.args.s.0 c.in-Some.q.0 c.push_of-push.result c.pushed_level-level.result ((quiet g c).grows.records _ _ (c.requires.rec ∙ ap Some c.push_of-push.ensures)) (value_at_q g c) c.pushed_level-level.ensures.pushed
 
-facts : (g : _) (c : After-pushed_level-level g) → BuildFacts (g.H.Heap.view c.pushed_level-level.new.h) c.args.run.now c.args.s (suspended c.push_of-push.result) c.push_of-push.result.tree.0
-facts g c = build_facts (quiet g c) (g.met.H.Heap.lawful c.pushed_level-level.new.h).world c.requires.build (shape c.push_of-push.result) (c.requires.rec ∙ ap Some c.push_of-push.ensures) (λ w law e. waited law c.args.s.0 c.push_of-push.result e)
+facts : (g : _) (c : After-pushed_level-level g) → BuildFacts (g.H.Heap.view c.pushed_level-level.new.h) c.args.run.now c.args.s (suspended c.push_of-push.result) (c.push_of-push.result.tree.0 ∷ [])
+facts g c = build_facts (quiet g c) (g.met.H.Heap.lawful c.pushed_level-level.new.h).world c.requires.build (shape c.push_of-push.result) (c.requires.rec ∙ ap Some c.push_of-push.ensures) (λ w law e. (waited law c.args.s.0 c.push_of-push.result e, tt))
 
 pub put_level-place-requires : goal.put_level-place-requires
-put_level-place-requires g c = let d = (goal.at.put_level-place-requires g c).After-pushed_level-level in work_ask (shape c.push_of-push.result) c.args.s c.in-Some.q.0 c.push_of-push.result.weight c.pushed_level-level.result (works g d) (facts g d) (value_at_q g d)
+put_level-place-requires g c = let d = (goal.at.put_level-place-requires g c).After-pushed_level-level in work_ask (shape c.push_of-push.result) c.args.s c.in-Some.q.0 c.push_of-push.result.weight c.pushed_level-level.result (works g d) (facts g d) ((facts g d).value_low.0 c.in-Some.q.0 (value_at_q g d))
 
 pub unreachable-requires : goal.unreachable-requires
 unreachable-requires g c =
     let law1 = (g.met.H.Heap.lawful c.value_place.new.h).world in
     let e = here g (goal.at.unreachable-requires g c).After-push_of-push in
-    let f = build_facts c.value_place.ensures.quiet law1 c.requires.build (shape c.push_of-push.result) e (λ w law e. waited law c.args.s.0 c.push_of-push.result e) in
-    value_done_not law1 c.push_of-push.result.tree.0 f.known (place_waits (g.H.Heap.view c.value_place.new.h).seen c.push_of-push.result.tree.0 (waited_there (waited law1 c.args.s.0 c.push_of-push.result (c.value_place.ensures.quiet.grows.records _ _ e))) c.in-None.ensures.place)
+    let f = build_facts c.value_place.ensures.quiet law1 c.requires.build (shape c.push_of-push.result) e (λ w law e. (waited law c.args.s.0 c.push_of-push.result e, tt)) in
+    value_done_not law1 c.push_of-push.result.tree.0 f.known.0 (place_waits (g.H.Heap.view c.value_place.new.h).seen c.push_of-push.result.tree.0 (waited_there (waited law1 c.args.s.0 c.push_of-push.result (c.value_place.ensures.quiet.grows.records _ _ e))) c.in-None.ensures.place)
 
 pub returns : goal.returns
 returns g c =
     let d = (goal.at.returns g c).After-pushed_level-level in
-    work_built (shape c.push_of-push.result) (g.met.H.Heap.lawful c.pushed_level-level.new.h).world (g.met.H.Heap.lawful c.put_level-place.new.h).world c.args.s c.in-Some.q.0 c.pushed_level-level.result c.put_level-place.result.0 (works g d) c.put_level-place.ensures.put c.put_level-place.ensures.keys (quiet g d) (facts g d) (value_at_q g d)
+    work_built (shape c.push_of-push.result) (g.met.H.Heap.lawful c.pushed_level-level.new.h).world (g.met.H.Heap.lawful c.put_level-place.new.h).world c.args.s c.in-Some.q.0 c.pushed_level-level.result c.put_level-place.result.0 (works g d) c.put_level-place.ensures.put c.put_level-place.ensures.keys (quiet g d) (facts g d) ((facts g d).value_low.0 c.in-Some.q.0 (value_at_q g d))

@@ -1,12 +1,13 @@
-use Rattle.std.proofs.Common.{◌≡◌, ◌∙◌, ap, Some}
-use Rattle.heap_store.specs.World.{recs}
+use Rattle.std.proofs.Common.{◌≡◌, ◌∙◌, ap, Some, eqb, refl, true, false}
+use Rattle.std.proofs.lemmas.Bool.{and_from, or_left, eq-eqb}
+use Rattle.heap_store.specs.World.{recs, is_value}
 use Rattle.heap_store.specs.View.{Quiet}
 use Rattle.heap_store.proofs.Steps.{Quiet_trans}
 use Rattle.heap_store.proofs.ValueLaws.{place_waits}
 use Rattle.heap_store.proofs.ReadLaws.{is_there}
 use Rattle.finger_level.proofs.Found.{IsValueAt, value_tree}
 use Rattle.finger_tree.specs.Work.{suspended}
-use Rattle.finger_tree.proofs.Works.{Makes, work_ready, work_need, cursor_stays, waited_there, value_up_at}
+use Rattle.finger_tree.proofs.Works.{Makes, work_ready, work_need, cursor_stays, value_known, waited_there, value_up_at}
 use Rattle.finger_tree.proofs.PushWorks.{shape, waited, push_works}
 use Rattle.finger_tree.proofs.push.prepare.Goals as goal
 use Rattle.finger_tree.proofs.push.prepare.Goals.{After-push_of-push, After-pushed_level-level}
@@ -48,7 +49,7 @@ pub returns-in-Some-clause-cursor : goal.returns-in-Some-clause-cursor
 returns-in-Some-clause-cursor g c = cursor_stays (shape c.push_of-push.result) (Quiet_trans c.value_place.ensures.quiet c.pushed_level-level.ensures.quiet).grows c.args.s.0 (here g (goal.at.returns-in-Some-clause-cursor g c).After-push_of-push) c.args.cursor.now c.requires.cursor
 
 pub returns-in-Some-clause-answer : goal.returns-in-Some-clause-answer
-returns-in-Some-clause-answer g c = let d = (goal.at.returns-in-Some-clause-answer g c).After-pushed_level-level in work_ready (shape c.push_of-push.result) c.args.s.0 c.in-Some.q.0 c.push_of-push.result.weight c.pushed_level-level.result c.places.result (value_at_q g d) (works g d) c.places.ensures.exact c.places.ensures.most
+returns-in-Some-clause-answer g c = let d = (goal.at.returns-in-Some-clause-answer g c).After-pushed_level-level in work_ready (shape c.push_of-push.result) c.args.s.0 c.in-Some.q.0 c.push_of-push.result.weight c.pushed_level-level.result c.places.result (and_from (is_value (g.H.Heap.view c.pushed_level-level.new.h).seen c.push_of-push.result.tree.0) true (value_known (g.H.Heap.view c.pushed_level-level.new.h).seen c.push_of-push.result.tree.0 c.in-Some.q.0 (value_at_q g d)) refl) (works g d) c.places.ensures.exact
 
 pub returns-in-None-clause-cursor : goal.returns-in-None-clause-cursor
 returns-in-None-clause-cursor g c = cursor_stays (shape c.push_of-push.result) c.value_place.ensures.quiet.grows c.args.s.0 (here g (goal.at.returns-in-None-clause-cursor g c).After-push_of-push) c.args.cursor.now c.requires.cursor
@@ -58,4 +59,4 @@ returns-in-None-clause-answer g c =
     let law1 = (g.met.H.Heap.lawful c.value_place.new.h).world in
     let e1 = c.value_place.ensures.quiet.grows.records _ _ (here g (goal.at.returns-in-None-clause-answer g c).After-push_of-push) in
     let w = waited law1 c.args.s.0 c.push_of-push.result e1 in
-    work_need law1 (shape c.push_of-push.result) c.args.s.0 e1 w (place_waits (g.H.Heap.view c.value_place.new.h).seen c.push_of-push.result.tree.0 (waited_there w) c.in-None.ensures.place)
+    work_need law1 (shape c.push_of-push.result) c.args.s.0 c.push_of-push.result.tree.0 e1 (or_left (eqb c.push_of-push.result.tree.0 c.push_of-push.result.tree.0) false (eq-eqb c.push_of-push.result.tree.0 c.push_of-push.result.tree.0 refl)) w (place_waits (g.H.Heap.view c.value_place.new.h).seen c.push_of-push.result.tree.0 (waited_there w) c.in-None.ensures.place)
