@@ -19,6 +19,16 @@ use heap_store::{After, Cursor, EventJob, Heap, Prep, Run, Stage, Version};
 use lazy_rec::limits::MOST_ITEMS;
 use lazy_rec::{Item, Kind, Op, Rec, Ref, Reply};
 
+/// Whether an operation of sequences is built: `size`, and those at the ends.
+pub fn is_end_op(op: Op) -> bool
+    ensures { result ≡ is_end_op op }
+{
+    matches!(
+        op,
+        Op::Size | Op::Pushl | Op::Pushr | Op::Popl | Op::Popr | Op::First | Op::Last
+    )
+}
+
 /// What an operation at an end of a sequence needs: a pop off a digit of one element the middle, others nothing. A push takes the
 /// places of a leaf and of the level that it makes, five at most; a pop those of the level that it leaves, four at most; other
 /// operations take none. No operation has cells to pass one by one, so the cursor stays.

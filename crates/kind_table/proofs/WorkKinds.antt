@@ -2,15 +2,20 @@
 use Rattle.std.proofs.Common.{◌≡◌, ℕ, refl, sym, Bool, true, Some}
 use Rattle.std.proofs.lemmas.Bool.{true≢false, and_parts, and_from}
 use Rattle.lazy_rec.specs.declared.records.Rec.{Rec}
-use Rattle.lazy_rec.specs.declared.records.Rec.TheVariants.{Append, Reverse, BankRot, RtRot}
+use Rattle.lazy_rec.specs.declared.records.Rec.TheVariants.{Append, Reverse, BankRot, RtRot, HeapInsert, HeapMerge, PushL, PushR, DeepL, DeepR, Concat}
 use Rattle.lazy_rec.specs.Named.{is_pending}
 use Rattle.heap_store.specs.declared.jobs.Prep.{Prep}
 use Rattle.heap_store.specs.declared.jobs.Prep.TheVariants.{Need, Ready}
 use Rattle.heap_store.specs.World.{World, recs}
 use Rattle.heap_store.specs.Lawful.{is_any_bank_rotation, is_any_rt_rotation}
 use Rattle.heap_store.specs.OneStage.{nothing_told}
-use Rattle.heap_store.specs.Jobs.{Readiness, Prepared}
+use Rattle.heap_store.specs.Jobs.{Readiness, Prepared, IsBuildable}
+use Rattle.lazy_rec.specs.declared.places.Ref.{Ref}
+use Rattle.heap_store.specs.Span.{Span}
+use Rattle.heap_store.specs.View.{View}
 use Rattle.lazy_stream.specs.Stream.{is_stream_work}
+use Rattle.binom_heap.specs.Work.{is_heap_work, heap_told}
+use Rattle.finger_tree.specs.Work.{is_finger_work, LevelTold}
 use Rattle.kind_table.specs.Kinds.{is_any_work, told_of, told_by}
 
 -- the kind's work is some kind's, and what its prepare tells of a record is what that of any kind tells
@@ -79,3 +84,71 @@ rt_queues = record { work = works; tells = tells }
     tells : (w : World) (s nodes : ℕ) (r : Rec) → is_any_rt_rotation r ≡ true → nothing_told w s nodes → told_of w s nodes (Some r)
     tells w s nodes (RtRot _ _ _ _ _ _) h t = t
     tells w s nodes _ h t = absurd (true≢false (sym h))
+
+-- ---- the kinds that tell more
+
+pub heaps : IsKind is_heap_work heap_told
+heaps = record { work = works; tells = tells }
+  where
+    works : (r : Rec) → is_heap_work r ≡ true → is_any_work r ≡ true
+    works (HeapInsert _ _ _) h = refl
+    works (HeapMerge _ _ _ _) h = refl
+    works _ h = absurd (true≢false (sym h))
+
+    tells : (w : World) (s nodes : ℕ) (r : Rec) → is_heap_work r ≡ true → heap_told w s nodes → told_of w s nodes (Some r)
+    tells w s nodes (HeapInsert _ _ _) h t = t
+    tells w s nodes (HeapMerge _ _ _ _) h t = t
+    tells w s nodes _ h t = absurd (true≢false (sym h))
+
+pub finger_trees : IsKind is_finger_work LevelTold
+finger_trees = record { work = works; tells = tells }
+  where
+    works : (r : Rec) → is_finger_work r ≡ true → is_any_work r ≡ true
+    works (PushL _ _ _ _ _ _ _ _) h = refl
+    works (PushR _ _ _ _ _ _ _ _) h = refl
+    works (DeepL _ _ _ _ _ _) h = refl
+    works (DeepR _ _ _ _ _ _) h = refl
+    works (Concat _ _ _ _ _ _ _) h = refl
+    works _ h = absurd (true≢false (sym h))
+
+    tells : (w : World) (s nodes : ℕ) (r : Rec) → is_finger_work r ≡ true → LevelTold w s nodes → told_of w s nodes (Some r)
+    tells w s nodes (PushL _ _ _ _ _ _ _ _) h t = t
+    tells w s nodes (PushR _ _ _ _ _ _ _ _) h t = t
+    tells w s nodes (DeepL _ _ _ _ _ _) h t = t
+    tells w s nodes (DeepR _ _ _ _ _ _) h t = t
+    tells w s nodes (Concat _ _ _ _ _ _ _) h t = t
+    tells w s nodes _ h t = absurd (true≢false (sym h))
+
+-- what is told of a finger tree's work is what its build asks
+finger_told : (w : World) (s nodes : ℕ) (r : Rec) → is_finger_work r ≡ true → told_of w s nodes (Some r) → LevelTold w s nodes
+finger_told w s nodes (PushL _ _ _ _ _ _ _ _) h t = t
+finger_told w s nodes (PushR _ _ _ _ _ _ _ _) h t = t
+finger_told w s nodes (DeepL _ _ _ _ _ _) h t = t
+finger_told w s nodes (DeepR _ _ _ _ _ _) h t = t
+finger_told w s nodes (Concat _ _ _ _ _ _ _) h t = t
+finger_told w s nodes _ h t = absurd (true≢false (sym h))
+
+one_record : (w : World) (p : ℕ) (a b : Rec) → recs w p ≡ Some a → recs w p ≡ Some b → a ≡ b
+one_record w p a b h k = cc
+
+pub finger_buildable : {v : View} {s : Ref} {run : Span} (r : Rec) → recs v.seen s.0 ≡ Some r → is_finger_work r ≡ true → IsBuildable told_by v s run → IsBuildable LevelTold v s run
+finger_buildable {v} {s} r here is k =
+    let same : k.ready.rec ≡ r = one_record v.seen s.0 k.ready.rec r (k.base_grows.records _ _ k.ready.here) here in
+    record {
+      base = k.base;
+      base_lawful = k.base_lawful;
+      base_grows = k.base_grows;
+      nodes = k.nodes;
+      ready = record {
+        rec = k.ready.rec;
+        here = k.ready.here;
+        needs = k.ready.needs;
+        told = finger_told k.base s.0 k.nodes k.ready.rec (rw same is) (rw k.ready.here at k.ready.told);
+        most = k.ready.most;
+        exact = k.ready.exact;
+      };
+      above = k.above;
+      size = k.size;
+      held = k.held;
+      newest = k.newest;
+    }

@@ -41,6 +41,7 @@ pub fn new_event<H: Heap>(h: &mut H, kind: Kind, run: &mut Run) -> Ref
         Kind::Bankq => bank_queue::new_queue(h, run),
         Kind::Rtq => rt_queue::new_queue(h, run),
         Kind::Heap => binom_heap::new_heap(h, run),
+        Kind::Seq => finger_apps::new_seq(h, run),
         _ => unreachable!(),
     }
 }
@@ -57,6 +58,7 @@ pub fn prepare_event<H: Heap>(h: &mut H, job: &EventJob, cursor: &mut Cursor) ->
         Kind::Bankq => bank_queue::prepare_event(h, job, cursor),
         Kind::Rtq => rt_queue::prepare_event(h, job, cursor),
         Kind::Heap => binom_heap::prepare_event(h, job, cursor),
+        Kind::Seq => finger_apps::prepare_event(h, job, cursor),
         _ => unreachable!(),
     }
 }
@@ -72,6 +74,7 @@ pub fn build_event<H: Heap>(h: &mut H, job: &EventJob, cursor: &Cursor, run: &mu
         Kind::Bankq => bank_queue::build_event(h, job, cursor, run),
         Kind::Rtq => rt_queue::build_event(h, job, cursor, run),
         Kind::Heap => binom_heap::build_event(h, job, cursor, run),
+        Kind::Seq => finger_apps::build_event(h, job, cursor, run),
         _ => unreachable!(),
     }
 }

@@ -22,6 +22,11 @@ pub fn prepare<H: Heap>(rec: &Rec, h: &mut H, s: Ref, cursor: &mut Cursor) -> Pr
         Rec::BankRot { .. } => bank_queue::prepare(rec, h, s, cursor),
         Rec::RtRot { .. } => rt_queue::prepare(rec, h, s, cursor),
         Rec::HeapInsert { .. } | Rec::HeapMerge { .. } => binom_heap::prepare(rec, h, s, cursor),
+        Rec::PushL { .. }
+        | Rec::PushR { .. }
+        | Rec::DeepL { .. }
+        | Rec::DeepR { .. }
+        | Rec::Concat { .. } => finger_tree::prepare(rec, h, s, cursor),
         _ => unreachable!(),
     }
 }
@@ -39,6 +44,11 @@ pub fn build<H: Heap>(rec: &Rec, h: &mut H, s: Ref, cursor: &Cursor, run: &mut R
         Rec::BankRot { .. } => bank_queue::build(rec, h, s, cursor, run),
         Rec::RtRot { .. } => rt_queue::build(rec, h, s, cursor, run),
         Rec::HeapInsert { .. } | Rec::HeapMerge { .. } => binom_heap::build(rec, h, s, cursor, run),
+        Rec::PushL { .. }
+        | Rec::PushR { .. }
+        | Rec::DeepL { .. }
+        | Rec::DeepR { .. }
+        | Rec::Concat { .. } => finger_tree::build(rec, h, s, cursor, run),
         _ => unreachable!(),
     }
 }
