@@ -71,13 +71,13 @@ event_here events list i d same l =
 abbrev pub no_event : Event
 no_event = record { op = ops.New kinds.Stream; base = 0; other = 0; arg = 0 }
 
--- by the kinds of a script's events, whether the event at a place is built
-pub built_here : (events : List Event) (ks : List Kind) (i : ℕ) (b : Bool) → IsScript events → AreKindsOf events ks → i < length ks → ((op : Op) → (belongs (get_or ks i kinds.Stream) op || not (uses_base op)) ≡ true → is_built (get_or ks i kinds.Stream) op ≡ b) → (e : Event) × (event_of events (i + 1) ≡ Some e) × (is_built_at events (i + 1) e ≡ b)
-built_here events ks i b script are l told =
+-- whether the event at a place is built, by its kind and its operation, which the kind has
+pub built_here : (events list : List Event) (ks : List Kind) (i : ℕ) (b : Bool) → IsScript events → AreKindsOf events ks → list ≡ events → i < length ks → ((belongs (get_or ks i kinds.Stream) (get_or list i no_event).op || not (uses_base (get_or list i no_event).op)) ≡ true → is_built (get_or ks i kinds.Stream) (get_or list i no_event).op ≡ b) → (event_of events (i + 1) ≡ Some (get_or list i no_event)) × (is_built_at events (i + 1) (get_or list i no_event) ≡ b)
+built_here events list ks i b script are same l told =
     let k : Kind = get_or ks i kinds.Stream in
+    let e : Event = get_or list i no_event in
     let below : i < length events = omega (arith, are.many, l) in
-    let e : Event = get_or events i no_event in
-    let here : event_of events (i + 1) ≡ Some e = event_here events events i no_event refl below in
+    let here : event_of events (i + 1) ≡ Some e = event_here events list i no_event same (omega (arith, below, ap length same)) in
     let next : suc i ≡ i + 1 = omega arith in
     let of_kind : Some k ≡ kind_of (event_of events) (i + 1) = sym (slice_get-get_or ks i kinds.Stream l) ∙ (are.each i below ∙ ap (kind_of (event_of events)) next) in
-    (e, here, built_is events (i + 1) k e of_kind ∙ told e.op (of_its_kind events (i + 1) e k script here of_kind))
+    (here, built_is events (i + 1) k e of_kind ∙ told (of_its_kind events (i + 1) e k script here of_kind))

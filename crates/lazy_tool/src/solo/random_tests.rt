@@ -2,7 +2,7 @@
 use super::run_solo;
 use lazy_outside::{MemSink, SureSource};
 use lazy_rec::limits::MOST_SCRIPT_BYTES;
-use lazy_rec::{Event, Op, Reply};
+use lazy_rec::{Event, Kind, Op, Reply};
 use plain_model::plain_run;
 use script_text::{Script, generate, read_script};
 use std::alloc::{AllocError, Global};
@@ -11,7 +11,7 @@ use std::test::Fail;
 /// How many scripts are tried.
 const SCRIPTS: u64 = 300;
 
-/// How many events each is made of, those of kinds that aren't built among them.
+/// How many events each is made of, those that aren't built among them.
 const EVENTS: u32 = 160;
 
 /// The number of a version, where the events have these numbers.
@@ -47,7 +47,14 @@ fn push_event(
     text.push_str(line.as_str())
 }
 
-/// The text of a script without the events of kinds that aren't built.
+/// Whether an event is built and so are the events that it starts from, which have these numbers.
+fn stays(event: Event, kind: Kind, numbers: &[u32]) -> bool {
+    kind_table::is_built(kind, event.op)
+        && (!event.op.uses_base() || renamed(numbers, event.base) > 0)
+        && (!event.op.uses_other() || renamed(numbers, event.other) > 0)
+}
+
+/// The text of a script without the events that aren't built, and without those that start from them.
 fn built_text(alloc: Global, script: &Script) -> Result<String, AllocError> {
     let events = script.events();
     let mut text = String::from_str(alloc, "lazy 1\n")?;
@@ -55,7 +62,7 @@ fn built_text(alloc: Global, script: &Script) -> Result<String, AllocError> {
     let mut kept: u32 = 0;
     for i in 0..events.len() {
         let kind = script.kind_of(i as u32 + 1);
-        if kind_table::is_built(kind, Op::New(kind)) {
+        if stays(events[i], kind, numbers.as_slice()) {
             push_event(alloc, &mut text, events[i], numbers.as_slice())?;
             kept = kept.saturating_add(1);
             numbers.push(kept)?;

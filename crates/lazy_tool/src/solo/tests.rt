@@ -15,7 +15,7 @@ const ROTATION_REPORT: &str =
 const NO_TOTALS: &str = "totals forced 0 steps 0 givenup 0 dues 0\n";
 
 // A script, and its report.
-const REPORTS: [(&str, &str); 11] = [
+const REPORTS: [(&str, &str); 12] = [
     ("lazy 1\n", NO_TOTALS),
     ("lazy 1", NO_TOTALS),
     (ROTATION, ROTATION_REPORT),
@@ -54,6 +54,11 @@ const REPORTS: [(&str, &str); 11] = [
         "lazy 1\nnew heap\nmin 1\ndelmin 1\ninsert 1 5\nmeld 1 4\nmeld 4 1\nmeld 1 1\nmin 5\nmin 6\nmin 7\n",
         "1 ok\n2 empty\n3 empty\n4 ok\n5 ok\n6 ok\n7 ok\n8 5\n9 5\n10 empty\ntotals forced 1 steps 1 givenup 0 dues 9\n",
     ),
+    // A sequence that is emptied from the left.
+    (
+        "lazy 1\nnew seq\npushr 1 1\npushr 2 2\npopl 3\nfirst 4\npopl 4\nfirst 6\n",
+        "1 ok\n2 ok\n3 ok\n4 ok\n5 2\n6 ok\n7 empty\ntotals forced 0 steps 0 givenup 0 dues 6\n",
+    ),
 ];
 
 // The smallest rotation in stores of at least and at most so many nodes: the status and the report.
@@ -86,7 +91,7 @@ const SMALL_STORES: [(u32, u32, u8, &str); 5] = [
 ];
 
 // A text, and what is said of it.
-const REFUSED: [(&str, &str); 13] = [
+const REFUSED: [(&str, &str); 14] = [
     ("", "line 1: no header"),
     ("\n", "line 1: no header"),
     ("lazy 1\nqueue\n", "line 2: unknown word"),
@@ -114,7 +119,8 @@ const REFUSED: [(&str, &str); 13] = [
         "lazy 1\nnew bankq\n\nsnoc 1 5\nnew prio\nhead 2\nsize 3\n",
         "event 3: not built",
     ),
-    ("lazy 1\nnew seq", "event 1: not built"),
+    ("lazy 1\nnew seq\npushl 1 5\nnth 2 0", "event 3: not built"),
+    ("lazy 2\nnew seq\nsplit 1 0\n", "event 2: not built"),
 ];
 
 const OTHER_WORDS: [&[&str]; 9] = [
@@ -175,6 +181,19 @@ fn small_stores(rt: HostRuntime) -> Result<(), Fail> {
             assert_eq!(rt; sink.held(), report.as_bytes(), "{nodes}");
         }
     }
+    Ok(())
+}
+
+// An empty sequence takes no place: its root is a fixed record.
+#[test]
+fn no_node(rt: HostRuntime) -> Result<(), Fail> {
+    let words = words_of(rt.alloc(), &["plain", "--nodes", "0"])?;
+    let mut source = source(rt.alloc(), "lazy 1\nnew bankq\nsnoc 1 5\nnew seq\n", &[])?;
+    let mut sink = sink(rt.alloc(), &[])?;
+    let outcome = run_solo(rt.alloc(), words.as_slice(), &mut source, &mut sink);
+    assert_eq!(rt; outcome.status, 1);
+    let report = "1 full 0 1\n2 nobase\n3 ok\ntotals forced 0 steps 0 givenup 0 dues 0\n";
+    assert_eq!(rt; sink.held(), report.as_bytes());
     Ok(())
 }
 
