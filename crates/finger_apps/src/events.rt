@@ -78,6 +78,7 @@ pub fn build_event<H: Heap>(h: &mut H, job: &EventJob, cursor: &Cursor, run: &mu
 }
 
 /// How many places a push takes. They don't depend on the item.
+#[inline(always)]
 fn places_of_push<H: Heap>(h: &mut H, side: Side, base: &Version) -> u32
     requires value { holds (recs (H.view h.old).seen) base.now.root.0 is_tree_value ≡ true }
     requires size { base.now.size ≤ MOST_ITEMS }
@@ -93,6 +94,7 @@ fn places_of_push<H: Heap>(h: &mut H, side: Side, base: &Version) -> u32
 }
 
 /// What a pop needs, and how many places it takes.
+#[inline(always)]
 fn places_of_pop<H: Heap>(h: &mut H, side: Side, base: &Version) -> Prep
     requires { IsWhole (H.view h.old).seen base.now.root.0 }
     ensures quiet { Quiet (H.view h.old) (H.view h.new) }
@@ -128,6 +130,7 @@ fn argument(job: &EventJob) -> u64
 }
 
 /// Pushes an item onto an end.
+#[inline(always)]
 fn push<H: Heap>(h: &mut H, side: Side, job: &EventJob, run: &mut Run) -> After
     requires kind { job.now.base.kind ≡ Kind.Seq }
     requires op { pushes_at job.now.op side ≡ true }
@@ -156,6 +159,7 @@ fn push<H: Heap>(h: &mut H, side: Side, job: &EventJob, run: &mut Run) -> After
 }
 
 /// Takes the item at an end off.
+#[inline(always)]
 fn pop<H: Heap>(h: &mut H, side: Side, job: &EventJob, run: &mut Run) -> After
     requires kind { job.now.base.kind ≡ Kind.Seq }
     requires op { pops_at job.now.op side ≡ true }
@@ -182,6 +186,7 @@ fn pop<H: Heap>(h: &mut H, side: Side, job: &EventJob, run: &mut Run) -> After
 }
 
 /// Replies with the item at an end.
+#[inline(always)]
 fn look<H: Heap>(h: &mut H, side: Side, job: &EventJob, run: &mut Run) -> After
     requires kind { job.now.base.kind ≡ Kind.Seq }
     requires op { looks_at job.now.op side ≡ true }
