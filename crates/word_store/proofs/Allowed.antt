@@ -171,7 +171,7 @@ draw_allowed k n id m a one told positive asked fits s o homes me _ =
     let before : length v.numbers ≡ v.callers → slice_index v.words 0 ≡ x = λ all. ap (λ (l : List ℕ). slice_index l 0) (exact_is k s o id v me rights told all) in
     let again : (h : Hand) (w : ℕ) → Goes (slice_set v.words 0 ((x + a) % 2 ^ 64)) m (sight_after v ws h w, m.1) → Goes (slice_set v.words 0 (x + a)) m (sight_after v ws h w, m.1) = λ h w g. subst (λ y. Goes (slice_set v.words 0 y) m (sight_after v ws h w, m.1)) e g in
     ⊎_elim
-    (λ over. let move = draws_vain k s o id v me rights x a ws refl at told asked' positive over (exact_one k s o id v me rights told one) in
+    (λ over. let move = draws_vain k s o id v me rights x a ws refl at told asked' fits positive over (exact_one k s o id v me rights told one) in
     let kept' = moves k s o id v me rights ws ws (vain_hand v.hand x a) a move in (
       sight_after v ws (vain_hand v.hand x a) a,
       keeps,

@@ -119,6 +119,7 @@ module _ (k : Size) (s : St) (o : IsKept k s) (id : ℕ) (v : Sight) (me : get_e
           room = o.room;
           drawn = omega (arith, other 0 (λ z. omega (arith, z)));
           full = λ any. (let l = full any in omega (arith, l, other 0 (λ z. omega (arith, z))));
+          short = λ more. absurd (omega (arith, more));
           most = f.wasted_most;
           few = few_if k s o id v me rights ws h v.wasted (other 1 (λ z. omega (arith, z)));
           calm = λ one. (calm_if k s o id v me rights one, (let c = (o.calm one).1 in omega (arith, c, other 1 (λ z. omega (arith, z)))));

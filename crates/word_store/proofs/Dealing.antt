@@ -131,6 +131,7 @@ module _ (k : Size) (nodes rows callers c : ℕ) (cs : List ℕ) (id : ℕ) (s :
     room = o.room;
     drawn = omega (arith, o.drawn, total (λ (u : Sight). u.wasted));
     full = λ any. o.full (omega (arith, any, total (λ (u : Sight). u.wasted)));
+    short = λ any. o.short (omega (arith, any, total (λ (u : Sight). u.wasted)));
     few = λ past. (let l = o.few past in omega (arith, l, total (may_draw k.rows), split_draw (ltb (slice_index v.words 1) k.rows)));
     calm = λ one. (let m = o.calm one in (omega (arith, m.0, total (λ (u : Sight). u.wasted)), m.1));
     lost = o.lost;

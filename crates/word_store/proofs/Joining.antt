@@ -233,6 +233,7 @@ module _ (k : Size) (s : St) (o : IsKept k s) (id other c : ℕ) (v w : Sight) (
     room = o.room;
     drawn = omega (arith, o.drawn, wasted_sum);
     full = λ any. o.full (omega (arith, any, wasted_sum));
+    short = λ any. o.short (omega (arith, any, wasted_sum));
     few = λ past. (let l = o.few past in omega (arith, l, few_draw));
     calm = λ alone. (let m = o.calm alone in (omega (arith, m.0, wasted_sum), m.1));
     lost = o.lost;

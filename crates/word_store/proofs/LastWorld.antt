@@ -1,8 +1,9 @@
 -- What is known of the last world, when the seats of all callers are one.
 use Rattle.std.proofs.Common.{◌≡◌, ℕ, zero, suc, ◌-◌, ◌<◌, ◌≤◌, List, [], ◌∷◌, length, refl, sym, ap, ap₂, ◌∙◌, arith, subst, Bool, true, false, cond, ◌||◌, Some, None, min}
 use Rattle.std.specs.Prelude.{slice_index, slice_get, map}
-use Rattle.std.proofs.lemmas.Bool.{true≢false}
+use Rattle.std.proofs.lemmas.Bool.{true≢false, cases_lt}
 use Rattle.std.proofs.lemmas.List.Sums.{sum_by-cons}
+use mathlib.Core.Logic.{⊎_elim}
 use mathlib.Core.Path.{fun_ext}
 use Rattle.lazy_rec.specs.Units.{credits}
 use Rattle.heap_store.specs.declared.claims.HeldClaim.{HeldClaim}
@@ -10,7 +11,7 @@ use Rattle.heap_store.specs.World.{World, is_claimed_at, is_done}
 use Rattle.heap_store.specs.Rows.{row_at, is_ended_at}
 use Rattle.heap_store.specs.Growth.{Grows}
 use Rattle.heap_store.specs.Hand.{Hand, contains, holds_claim, is_built, claim_places, places_from}
-use Rattle.heap_store.specs.Budget.{IsInBudget, credits_brought, sum_records}
+use Rattle.heap_store.specs.Budget.{IsInBudget, credits_brought, sum_records, room_of}
 use Rattle.heap_store.specs.View.{published_count}
 use Rattle.heap_store.proofs.BoundLaws.{steps_bound, total_le}
 use Rattle.word_world.specs.Words.{world_of, node_of_words, row_words, places_of}
@@ -130,6 +131,10 @@ module _ (nodes rows callers next : ℕ) (some : 1 ≤ callers) (low : next ≤ 
         all_rows = length-tabulate (row_words nodes ws) 0 rows;
         seen = λ j p at. (let t = gathered_told first (map sight_of ps) j (sight_of p) (map_got sight_of ps j p at) in
             subst (Grows (view_of p).seen) world_is (k.told t.0 ((sight_of p).nodes, (sight_of p).rows, (sight_of p).words) (ap (λ (v : Sight). lib.ListN.get_elem? v.told t.0) is ∙ t.1)));
+        enough = λ room. ⊎_elim
+            (λ any. (let l = whole.short any in absurd (omega (arith, l, room, sizes.0, ap room_of world_is))))
+            (λ none. omega (arith, none, whole.drawn, ap (λ (h : Hand). length h.reserved) hand_is, ap length idle.reserved, ap published_count world_is, ap (λ (l : List ℕ). slice_index l 0) words))
+            (cases_lt 0 n.0.wasted);
         ended = λ i inside none. ended_here i inside (gathered_names first (map sight_of ps) (suc i) refl (λ j w e. (let t = got_map sight_of ps j w e in ap (λ (v : Sight). contains v.hand.names (suc i)) (sym t.2) ∙ none j t.0 t.1)));
       }
         where

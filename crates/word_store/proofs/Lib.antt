@@ -22,6 +22,7 @@ pub mod Dealing
 pub mod Nothing
 pub mod Joining
 pub mod Gathering
+pub mod Given
 pub mod ClosedWords
 pub mod LastWorld
 pub mod RuleLaws

@@ -11,7 +11,7 @@ use Rattle.heap_store.specs.Rows.{row_at, is_ended_at}
 use Rattle.heap_store.specs.Growth.{Grows}
 use Rattle.heap_store.specs.Hand.{Hand, IsLawfulHand, contains, holds_claim}
 use Rattle.heap_store.specs.Shared.{one_if}
-use Rattle.heap_store.specs.Budget.{IsBalanced}
+use Rattle.heap_store.specs.Budget.{IsBalanced, room_of}
 use Rattle.heap_store.proofs.GrowthLaws.{grows_refl}
 use Rattle.word_world.specs.Words.{state_word_at, record_word_at, row_word_at, places_of}
 use Rattle.word_world.specs.LawfulWords.{IsLawfulWords}
@@ -86,6 +86,7 @@ module _ (k : Size) (s : St) (o : IsKept k s) (id : ℕ) (v : Sight) where
     pub room : given ≤ k.nodes
     pub drawn : slice_index ws 0 + v.wasted + o.given ≡ slice_index s.words 0 + n + given
     pub full : 0 < n → k.nodes < slice_index ws 0
+    pub short : v.wasted < n → k.nodes < room_of (shows k ws)
     pub most : n ≤ 4000000 * length v.numbers
     pub few : k.rows < slice_index ws 1 → slice_index ws 1 + sum_by (may_draw k.rows) s.views + may_draw k.rows (sight_after v vs h n) ≤ k.rows + k.callers + may_draw k.rows v
     pub calm : k.callers ≡ 1 → (n ≡ 0) × (slice_index ws 1 ≤ k.rows)

@@ -64,6 +64,7 @@ module _ (k : Size) (s : St) (o : IsKept k s) (id : ℕ) (v : Sight) (me : get_e
         room = o.room;
         drawn = omega (arith, word0);
         full = λ any. (let l = full any in omega (arith, l, word0));
+        short = λ more. absurd (omega (arith, more));
         most = f.wasted_most;
         few = few;
         calm = λ one. (calm_if k s o id v me rights one, calm one);

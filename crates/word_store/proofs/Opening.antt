@@ -118,6 +118,7 @@ module _ (k : Size) (small : IsSmall k) where
         room = omega arith;
         drawn = omega (arith, one_sum (λ (u : Sight). u.wasted) v);
         full = λ any. absurd (omega (arith, any, one_sum (λ (u : Sight). u.wasted) v));
+        short = λ any. absurd (omega (arith, any, one_sum (λ (u : Sight). u.wasted) v));
         few = λ past. absurd (omega (arith, past));
         calm = λ one. (one_sum (λ (u : Sight). u.wasted) v, omega arith);
         lost = lost_first;

@@ -13,6 +13,7 @@ use Rattle.heap_store.specs.Rows.{row_at, is_ended_at}
 use Rattle.heap_store.specs.Growth.{Grows}
 use Rattle.heap_store.specs.Hand.{Hand, IsLawfulHand, contains, holds_claim, hand_reserved, places_from, claim_places}
 use Rattle.heap_store.specs.Shared.{one_if}
+use Rattle.heap_store.specs.Budget.{room_of}
 use Rattle.heap_store.proofs.GrowthLaws.{grows_refl}
 use Rattle.word_world.specs.Words.{state_word_at, record_word_at, row_word_at, places_of, world_of}
 use Rattle.word_world.specs.LawfulWords.{IsLawfulWords}
@@ -25,6 +26,7 @@ use Rattle.word_store.proofs.Sums.{one_true, false_by, term_le}
 use Rattle.word_store.proofs.Moves.{St, Move, sees_now, no_draw}
 use Rattle.word_store.proofs.Seats.{place_given}
 use Rattle.word_store.proofs.Balances.{same_balance, reserved_balance}
+use Rattle.word_store.proofs.Given.{room_left}
 
 module _ (k : Size) (s : St) (o : IsKept k s) (id : ℕ) (v : Sight) (me : get_elem? s.views id ≡ some v) (rights : 0 < length v.numbers) where
   f : IsSeat k s.words v
@@ -61,6 +63,7 @@ module _ (k : Size) (s : St) (o : IsKept k s) (id : ℕ) (v : Sight) (me : get_e
     room = o.room;
     drawn = omega arith;
     full = full_if;
+    short = λ more. absurd (omega (arith, more));
     most = f.wasted_most;
     few = few_if s.words h v.wasted refl;
     calm = λ one. (calm_if one, (o.calm one).1);
@@ -114,6 +117,7 @@ module _ (k : Size) (s : St) (o : IsKept k s) (id : ℕ) (v : Sight) (me : get_e
           room = room;
           drawn = omega (arith, word0, given_is, is);
           full = λ any. (let l = full_if any in omega (arith, l, word0, is));
+          short = λ more. absurd (omega (arith, more));
           most = f.wasted_most;
           few = few_if ws h v.wasted (other 1 (λ z. omega (arith, z)));
           calm = λ one. (calm_if one, (let c = (o.calm one).1 in omega (arith, c, other 1 (λ z. omega (arith, z)))));
@@ -143,9 +147,13 @@ module _ (k : Size) (s : St) (o : IsKept k s) (id : ℕ) (v : Sight) (me : get_e
           row_words = λ i j none open_yet low few. sym (other (row_word_at k.nodes i j) (λ z. omega (arith, z)));
         }
 
+    -- where the number is more than the store has left, the store is smaller than what its begun events may take
+    short_if : a ≤ v.hand.allowance → k.nodes < x + a → k.nodes < room_of (shows k ws)
+    short_if fits over = subst (λ w. k.nodes < room_of w) (sym now) (⊎_elim o.short (λ none. (let l = room_left k s o id v me in omega (arith, l, fits, over, none, o.drawn, is))) (cases_lt 0 (sum_by (λ (u : Sight). u.wasted) s.views)))
+
     -- the number is added in vain
-    pub draws_vain : v.told ≡ [] → slice_index v.words 0 + a ≤ k.nodes → 0 < a → k.nodes < x + a → (k.callers ≡ 1 → v.words ≡ s.words) → Move k s o id v ws ws (vain_hand v.hand x a) a
-    draws_vain told asked positive over exact =
+    pub draws_vain : v.told ≡ [] → slice_index v.words 0 + a ≤ k.nodes → a ≤ v.hand.allowance → 0 < a → k.nodes < x + a → (k.callers ≡ 1 → v.words ≡ s.words) → Move k s o id v ws ws (vain_hand v.hand x a) a
+    draws_vain told asked fits positive over exact =
         let h : Hand = vain_hand v.hand x a in
         let none_yet : v.wasted ≡ 0 = ⊎_elim (λ any. (let l = f.seen_full told any in absurd (omega (arith, l, asked)))) (λ none. omega (arith, none)) (cases_lt 0 v.wasted) in
         record {
@@ -159,6 +167,7 @@ module _ (k : Size) (s : St) (o : IsKept k s) (id : ℕ) (v : Sight) (me : get_e
           room = o.room;
           drawn = omega (arith, word0, is, none_yet);
           full = λ any. omega (arith, word0, over);
+          short = λ _. short_if fits over;
           most = omega (arith, asked, o.small.0, rights);
           few = few_if ws h a (other 1 (λ z. omega (arith, z)));
           calm = λ one. absurd (omega (arith, asked, over, is, ap (λ (l : List ℕ). slice_index l 0) (exact one)));
@@ -243,6 +252,7 @@ module _ (k : Size) (s : St) (o : IsKept k s) (id : ℕ) (v : Sight) (me : get_e
       room = o.room;
       drawn = omega (arith, at_other s.words 0 (λ z. omega (arith, z)));
       full = λ any. (let l = full_if any in omega (arith, l, at_other s.words 0 (λ z. omega (arith, z))));
+      short = λ more. absurd (omega (arith, more));
       most = f.wasted_most;
       few = λ past. (let all = o.few (omega (arith, past, at_other s.words 1 (λ z. omega (arith, z)))) in omega (arith, all, at_other s.words 1 (λ z. omega (arith, z)), same_draw));
       calm = λ one. (calm_if one, (let c = (o.calm one).1 in omega (arith, c, at_other s.words 1 (λ z. omega (arith, z)))));

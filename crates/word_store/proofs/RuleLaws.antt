@@ -19,7 +19,7 @@ use Rattle.word_world.specs.Words.{world_of}
 use Rattle.word_store.specs.declared.sight.Sight.{Sight}
 use Rattle.word_store.specs.declared.sight.Size.{Size}
 use Rattle.word_store.specs.Rule.{IsKept, shows, running, hands_of}
-use Rattle.word_store.specs.Laws.{DoneStays, ClaimsAreOnce, DoneIsUnclaimed, WorkIsDue, PlacesAreDue}
+use Rattle.word_store.specs.Laws.{DoneStays, ClaimsAreOnce, DoneIsUnclaimed, WorkIsDue, PlacesAreDue, VainIsShort}
 use Rattle.word_store.proofs.Sums.{term_le, terms_le, one_true, one_most, false_by, pos_true}
 use Rattle.word_store.proofs.Moves.{St}
 
@@ -67,3 +67,6 @@ work_is_due k s o = work_due k s o
 
 pub places_are_due : PlacesAreDue
 places_are_due k s o = places_bound (running k s.words s.views) o.well.world o.well.funded (budget k s o) (all_hands (shows k s.words) s.views (λ j v at. (o.seats j v at).hand))
+
+pub vain_is_short : VainIsShort
+vain_is_short k s o j v at any = o.short (let t = term_le (λ (u : Sight). u.wasted) s.views j v at in omega (arith, any, t))

@@ -1,5 +1,5 @@
 -- What a seat knows of the others by the rule, and that a move keeps it.
-use Rattle.std.proofs.Common.{◌≡◌, ◌≢◌, ℕ, suc, ◌+◌, ◌<◌, List, length, sym, ap, ◌∙◌, arith, subst, true, false, min, ltb, None}
+use Rattle.std.proofs.Common.{◌≡◌, ◌≢◌, ℕ, suc, ◌+◌, ◌<◌, ◌≤◌, List, length, sym, ap, ◌∙◌, arith, subst, true, false, min, ltb, None}
 use Rattle.std.specs.Prelude.{slice_index, slice_set, sum_by}
 use Rattle.std.proofs.lemmas.Bool.{true≢false, cases_lt, ltb-true}
 use mathlib.Core.Logic.{⊎_elim}
@@ -12,7 +12,9 @@ use Rattle.heap_store.specs.World.{recs, is_published, is_claimed_at, fixed_plac
 use Rattle.heap_store.specs.Rows.{row_at, is_ended_at}
 use Rattle.heap_store.specs.Hand.{Hand, contains, holds_claim}
 use Rattle.heap_store.specs.Shared.{one_if}
+use Rattle.heap_store.specs.Budget.{room_of}
 use Rattle.heap_store.proofs.GrowthLaws.{grows_trans}
+use Rattle.heap_store.proofs.RowBudget.{room_rises}
 use Rattle.word_world.specs.Words.{places_of, node_of_words}
 use Rattle.word_world.proofs.Tables.{tabulate-past}
 use Rattle.word_store.specs.declared.sight.Sight.{Sight}
@@ -129,6 +131,9 @@ module _ (k : Size) (s : St) (o : IsKept k s) where
         vain = f.vain;
       }
 
+      room_up : room_of (shows k s.words) ≤ room_of (shows k ws)
+      room_up = room_rises (shows k s.words) (shows k ws) o.well.legal m.well.legal m.grows.ended m.grows.begun
+
       pub moves : IsKept k (board s ws id w)
       moves = record {
         small = o.small;
@@ -144,6 +149,7 @@ module _ (k : Size) (s : St) (o : IsKept k s) where
         room = m.room;
         drawn = omega (arith, o.drawn, wasted_sum, m.drawn);
         full = λ any. ⊎_elim (λ some. (let f = o.full some in omega (arith, f, m.places_up))) (λ none. m.full (omega (arith, none, any, wasted_sum))) (cases_lt 0 (sum_by (λ (u : Sight). u.wasted) s.views));
+        short = λ any. ⊎_elim (λ some. (let f = o.short some in omega (arith, f, room_up))) (λ none. m.short (omega (arith, none, any, wasted_sum))) (cases_lt 0 (sum_by (λ (u : Sight). u.wasted) s.views));
         few = λ past. (let f = m.few past in omega (arith, f, sum-changed (may_draw k.rows) s.views id v w me));
         calm = λ one. (let c = m.calm one in let d = o.calm one in (omega (arith, c.0, d.0, wasted_sum), c.1));
         lost = m.lost;

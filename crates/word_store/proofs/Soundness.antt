@@ -15,7 +15,7 @@ use Rattle.heap_store.specs.Rows.{row_at, is_ended_at}
 use Rattle.heap_store.specs.Lawful.{IsLawful}
 use Rattle.heap_store.specs.Hand.{Hand, IsLawfulHand, contains, holds_claim, is_built}
 use Rattle.heap_store.specs.Shared.{one_if}
-use Rattle.heap_store.specs.Budget.{IsInBudget, is_being_built, credits_brought, sum_records}
+use Rattle.heap_store.specs.Budget.{IsInBudget, is_being_built, credits_brought, sum_records, room_of}
 use Rattle.heap_store.specs.View.{is_there, published_count}
 use Rattle.heap_store.proofs.FixedPlaces.{fixed_records}
 use Rattle.word_world.specs.Words.{places_of, world_of, node_of_words}
@@ -41,7 +41,7 @@ above_fixed w law h hand p had = by p (hand.reserved p had)
     by (suc (suc (suc (suc zero)))) e = absurd (true≢false (sym (ap (at_record false (λ _. true)) (fixed_records law).empty_tree) ∙ e))
     by (suc (suc (suc (suc (suc q))))) e = omega arith
 
-published_there : (o : Option Node) → at_record false (λ _. true) (option_map (λ (n : Node). n.rec) o) ≡ is_there o
+pub published_there : (o : Option Node) → at_record false (λ _. true) (option_map (λ (n : Node). n.rec) o) ≡ is_there o
 published_there None = refl
 published_there (Some n) = refl
 
@@ -123,6 +123,7 @@ module _ (k : Size) (s : St) (o : IsKept k s) (id : ℕ) (v : Sight) (me : get_e
         one_true _ (lt-ltb i (min (slice_index s.words 1) k.rows) (omega (arith, low, sizes.1, ap (λ ws. slice_index ws 1) fresh))),
       ));
       budget = subst IsInBudget (ap₂ (λ w p. record { world = w; hands = v.hand ∷ []; plan = p }) (sym same_world) (sym sizes.3)) budget;
+      short = λ any. (let l = o.short (omega (arith, any, all_wasted)) in omega (arith, l, sizes.0, ap room_of same_world));
     }
 
   -- ---- a single caller

@@ -1,5 +1,5 @@
 -- What the rule means for who uses a store.
-use Rattle.std.specs.Prelude.{◌≡◌, ◌≢◌, ℕ, ◌+◌, ◌*◌, ◌<◌, ◌≤◌, true, false, Some, length, sum_by, is_some}
+use Rattle.std.specs.Prelude.{◌≡◌, ◌≢◌, ℕ, ◌+◌, ◌*◌, ◌<◌, ◌≤◌, true, false, Some, length, sum_by, is_some, slice_index}
 use mathlib.Core.Option.{some}
 use lib.ListN.{get_elem?}
 use Rattle.atomic_table.specs.Table.{State}
@@ -33,3 +33,13 @@ WorkIsDue = (k : Size) (s : State ℕ Sight) → IsKept k s → taken_steps (sho
 abbrev pub PlacesAreDue : Type 0
 PlacesAreDue = (k : Size) (s : State ℕ Sight) → IsKept k s
     → places_given (running k s.words s.views) + sum_by (λ (h : Hand). h.allowance) (hands_of s.views) ≤ direct_places (shows k s.words) + 8 * dues (shows k s.words)
+
+-- after an add in vain the store has fewer nodes than its begun events may take
+abbrev pub VainIsShort : Type 0
+VainIsShort = (k : Size) (s : State ℕ Sight) → IsKept k s → (j : ℕ) (v : Sight) → get_elem? s.views j ≡ some v
+    → 0 < v.wasted → k.nodes < direct_places (shows k s.words) + 8 * dues (shows k s.words)
+
+-- where it has as many, what is drawn and may yet be reserved is within it
+abbrev pub RoomIsEnough : Type 0
+RoomIsEnough = (k : Size) (s : State ℕ Sight) → IsKept k s → direct_places (shows k s.words) + 8 * dues (shows k s.words) ≤ k.nodes
+    → slice_index s.words 0 + sum_by (λ (h : Hand). h.allowance) (hands_of s.views) ≤ k.nodes

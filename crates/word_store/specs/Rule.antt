@@ -12,7 +12,7 @@ use Rattle.heap_store.specs.Rows.{Row, row_at, is_ended_at}
 use Rattle.heap_store.specs.Growth.{Grows}
 use Rattle.heap_store.specs.Hand.{Hand, IsLawfulHand, contains, all_distinct, holds_claim, places_from}
 use Rattle.heap_store.specs.Shared.{one_if}
-use Rattle.heap_store.specs.Budget.{Running, IsBalanced}
+use Rattle.heap_store.specs.Budget.{Running, IsBalanced, room_of}
 use Rattle.word_world.specs.Words.{world_of, word_count, first_words, state_word_at, record_word_at, row_word_at}
 use Rattle.word_world.specs.LawfulWords.{IsLawfulWords}
 use Rattle.word_store.specs.declared.sight.Sight.{Sight}
@@ -112,6 +112,8 @@ pub record IsKept (k : Size) (s : State ℕ Sight) : Type 0 where
   pub room : given ≤ k.nodes
   pub drawn : slice_index s.words 0 ≡ given + sum_by (λ (v : Sight). v.wasted) s.views
   pub full : 0 < sum_by (λ (v : Sight). v.wasted) s.views → k.nodes < slice_index s.words 0
+  -- something was added in vain only where the store is smaller than what its begun events may take
+  pub short : 0 < sum_by (λ (v : Sight). v.wasted) s.views → k.nodes < room_of (shows k s.words)
   -- each caller draws a name in vain at most once
   pub few : k.rows < slice_index s.words 1 → slice_index s.words 1 + sum_by (may_draw k.rows) s.views ≤ k.rows + k.callers
   -- a single caller draws nothing in vain

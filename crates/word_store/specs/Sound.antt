@@ -4,7 +4,7 @@ use Rattle.lazy_rec.specs.declared.limits.TheConstants.{MOST_DRAWN, MOST_EVENTS,
 use Rattle.heap_store.specs.World.{is_claimed_at, fixed_places}
 use Rattle.heap_store.specs.Rows.{row_at, is_ended_at}
 use Rattle.heap_store.specs.Hand.{IsLawfulHand, contains, holds_claim}
-use Rattle.heap_store.specs.Budget.{IsInBudget}
+use Rattle.heap_store.specs.Budget.{IsInBudget, room_of}
 use Rattle.heap_store.specs.View.{published_count}
 use Rattle.word_world.specs.Words.{places_of, word_count}
 use Rattle.word_world.specs.LawfulWords.{IsLawfulWords}
@@ -21,12 +21,14 @@ pub record IsAlone (v : Sight) : Type 0 where
   pub vain : is_some v.hand.vain ≡ false
   pub budget : IsInBudget (record { world = seen_by v; hands = v.hand ∷ []; plan = v.plan })
 
--- the seat of all callers has all that is given, claimed and named, and the budget is kept with its hand alone
+-- the seat of all callers has all that is given, claimed and named, the budget is kept with its hand alone, and it has added in
+-- vain only where the store is smaller than what its begun events may take
 pub record IsWhole (v : Sight) : Type 0 where
   pub drawn : published_count (seen_by v) + length v.hand.reserved + v.wasted ≡ fixed_places + slice_index v.words 0
   pub claims : (s : ℕ) → is_claimed_at (seen_by v) s ≡ true → holds_claim v.hand s ≡ true
   pub names : (i : ℕ) → i < min (slice_index v.words 1) v.rows → is_ended_at (row_at (seen_by v)) (suc i) ≡ false → contains v.hand.names (suc i) ≡ true
   pub budget : IsInBudget (record { world = seen_by v; hands = v.hand ∷ []; plan = v.plan })
+  pub short : 0 < v.wasted → v.nodes < room_of (seen_by v)
 
 pub record IsSound (v : Sight) : Type 0 where
   pub small : (v.nodes ≤ MOST_NODES) × (v.rows ≤ MOST_EVENTS)

@@ -1,5 +1,5 @@
 //! What the rule means for who uses a store: laws, each the contract of a function with an empty body.
-ghost use Rattle.word_store.specs.Laws.{DoneStays, ClaimsAreOnce, DoneIsUnclaimed, WorkIsDue, PlacesAreDue};
+ghost use Rattle.word_store.specs.Laws.{DoneStays, ClaimsAreOnce, DoneIsUnclaimed, WorkIsDue, PlacesAreDue, VainIsShort, RoomIsEnough};
 
 /// A suspension that any caller ever saw done is done, with the same place and the same steps.
 pub fn done_stays()
@@ -26,4 +26,15 @@ pub fn work_is_due()
 /// eight for each step that these are due.
 pub fn places_are_due()
     ensures { PlacesAreDue }
+{}
+
+/// After an add in vain the store has fewer nodes than its begun events may take, with eight for each step that these are due.
+pub fn vain_is_short()
+    ensures { VainIsShort }
+{}
+
+/// In a store with that many nodes the number of drawn places, and what all callers may yet reserve, are together within it: so
+/// whatever a caller may reserve is there.
+pub fn room_is_enough()
+    ensures { RoomIsEnough }
 {}
