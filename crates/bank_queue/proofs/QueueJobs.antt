@@ -163,7 +163,7 @@ pub top_there : {w : World} → IsLawful w → (p : ℕ) → holds (recs w) p (i
 top_there {w} law p h = let k = at_true (is_root (recs w) kinds.Bankq p) (recs w p) h in go k.0 k.1 k.2
   where
     go : (r : Rec) → recs w p ≡ Some r → same_sort (sort_of r) sorts.BankTop ≡ true → (t : Top) × (recs w p ≡ Some (top_record t))
-    go (BankTop front lenf rear lenr rotated origin n tails) e s = (record { front = front; lenf = lenf; rear = rear; lenr = lenr; rotated = rotated; origin = origin; n = n; tails = tails }, e)
+    go (BankTop rotated front lenf rear lenr origin n tails) e s = (record { front = front; lenf = lenf; rear = rear; lenr = lenr; rotated = rotated; origin = origin; n = n; tails = tails }, e)
     go _ e s = absurd (true≢false (sym s))
 
 -- what a build finds

@@ -192,7 +192,7 @@ new_fits {v} law p held front n rear k =
 
 -- the top of a new rotation
 pub fits_new : {a : World} {v : View} → IsLawful a → IsLawfulView v → Keeps (recs a) (recs v.seen) → (p : ℕ) → contains v.hand.reserved p ≡ true → (front rear : Ref) (n place : ℕ) → IsRotatable a front.0 n rear.0 place
-    → (rotation o : Ref) → o.0 ≡ rotation.0 → rotation.0 < p → 1 < p → recs v.seen rotation.0 ≡ Some (BankRot front rear n o 0) → 1 ≤ v.hand.credits → Fits v p (BankTop rotation (2 * n + 1) (record { 0 = 1 }) 0 true o n 0)
+    → (rotation o : Ref) → o.0 ≡ rotation.0 → rotation.0 < p → 1 < p → recs v.seen rotation.0 ≡ Some (BankRot front rear n o 0) → 1 ≤ v.hand.credits → Fits v p (BankTop true rotation (2 * n + 1) (record { 0 = 1 }) 0 o n 0)
 fits_new {a} {v} law0 law keeps p held front rear n place k rotation o same low one e credits =
     let rs = recs v.seen in
     let c = rotation_cells law0 law.world keeps front rear n place k rotation.0 o e in
@@ -208,7 +208,7 @@ fits_new {a} {v} law0 law keeps p held front rear n place k rotation o same low 
     (omega (arith, credits, first_gain v.seen p (record { front = rotation; lenf = 2 * n + 1; rear = record { 0 = 1 }; lenr = 0; rotated = true; origin = o; n = n; tails = 0 }) refl refl refl))
 
 -- the empty queue
-pub fits_empty : {v : View} → IsLawfulView v → (p : ℕ) → contains v.hand.reserved p ≡ true → Fits v p (BankTop (record { 0 = 0 }) 0 (record { 0 = 1 }) 0 false (record { 0 = 0 }) 0 0)
+pub fits_empty : {v : View} → IsLawfulView v → (p : ℕ) → contains v.hand.reserved p ≡ true → Fits v p (BankTop false (record { 0 = 0 }) 0 (record { 0 = 1 }) 0 (record { 0 = 0 }) 0 0)
 fits_empty {v} law p held =
     let five = above_fixed law p held in
     let rs = recs v.seen in
@@ -224,9 +224,9 @@ fits_empty {v} law p held =
       front_items = rw nil refl;
       rear_items = rw list_nil refl;
       range = refl;
-    }) (λ b keeps. refl) (free v.seen p (BankTop (record { 0 = 0 }) 0 (record { 0 = 1 }) 0 false (record { 0 = 0 }) 0 0) v.hand.credits refl)
+    }) (λ b keeps. refl) (free v.seen p (BankTop false (record { 0 = 0 }) 0 (record { 0 = 1 }) 0 (record { 0 = 0 }) 0 0) v.hand.credits refl)
 
-pub empty_means : {w : World} → IsLawful w → (p : ℕ) → recs w p ≡ Some (BankTop (record { 0 = 0 }) 0 (record { 0 = 1 }) 0 false (record { 0 = 0 }) 0 0) → means (recs w) p ≡ []
+pub empty_means : {w : World} → IsLawful w → (p : ℕ) → recs w p ≡ Some (BankTop false (record { 0 = 0 }) 0 (record { 0 = 1 }) 0 (record { 0 = 0 }) 0 0) → means (recs w) p ≡ []
 empty_means {w} law p e =
     let names = lawful_names law in
     let nil = cells_is (recs w) names 0 Nil (fixed_records law).nil in
@@ -235,7 +235,7 @@ empty_means {w} law p e =
 
 -- the items of a queue after a rotation
 pub new_means : {a w : World} → IsLawful a → IsLawful w → Keeps (recs a) (recs w) → (front rear : Ref) (n place : ℕ) → IsRotatable a front.0 n rear.0 place → (rotation o : Ref) → recs w rotation.0 ≡ Some (BankRot front rear n o 0)
-    → (p : ℕ) → recs w p ≡ Some (BankTop rotation (2 * n + 1) (record { 0 = 1 }) 0 true o n 0) → means (recs w) p ≡ items_in (queued (cells (recs a) front.0) (cells (recs a) rear.0))
+    → (p : ℕ) → recs w p ≡ Some (BankTop true rotation (2 * n + 1) (record { 0 = 1 }) 0 o n 0) → means (recs w) p ≡ items_in (queued (cells (recs a) front.0) (cells (recs a) rear.0))
 new_means {a} {w} law law2 keeps front rear n place k rotation o e p h =
     let c = rotation_cells law law2 keeps front rear n place k rotation.0 o e in
     let nil = cells_is (recs w) (lawful_names law2) 1 LNil (fixed_records law2).list_nil in

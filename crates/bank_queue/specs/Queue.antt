@@ -16,7 +16,7 @@ use Rattle.bank_queue.specs.Front.{is_front, is_paid_front}
 
 -- the record of a top
 abbrev pub top_record : Top → Rec
-top_record t = BankTop t.front t.lenf t.rear t.lenr t.rotated t.origin t.n t.tails
+top_record t = BankTop t.rotated t.front t.lenf t.rear t.lenr t.origin t.n t.tails
 
 -- a top takes one place, and one more for a rotation where the rear is longer than the front
 abbrev pub top_places : ℕ → ℕ → ℕ
@@ -42,7 +42,7 @@ looks_at_front _ lenf = false
 
 -- the places are those of the operation, and the front is a value or done where the operation looks at it
 abbrev pub is_ready_top : World → Op → ℕ → Rec → Bool
-is_ready_top w op nodes (BankTop front lenf rear lenr _ _ _ _) = eqb nodes (places_for op lenf lenr) && (not (looks_at_front op lenf) || is_value w front.0)
+is_ready_top w op nodes (BankTop _ front lenf rear lenr _ _ _) = eqb nodes (places_for op lenf lenr) && (not (looks_at_front op lenf) || is_value w front.0)
 is_ready_top w op nodes _ = false
 
 -- what the answer that an event is ready tells its build

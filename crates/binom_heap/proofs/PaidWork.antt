@@ -108,7 +108,7 @@ shown_by_top {w} law p r e work h = let s = discharged_by (recs w) (length w.nod
 
     by : (q : ℕ) (s : Rec) → recs w q ≡ Some s → is_member same_unit (paid (recs w) q s) (p, 0) ≡ true → ShownByTop w p (p, 0)
     by q (HeapTop list size owed) f m = record { place = q; list = list; size = size; owed = owed; here = f; shows = m }
-    by q (BankTop front lenf rear lenr rotated o n tails) f m = absurd (turned rotated (and_parts _ _ (law.each q _ f).bank_queue).1 m)
+    by q (BankTop rotated front lenf rear lenr o n tails) f m = absurd (turned rotated (and_parts _ _ (law.each q _ f).bank_queue).1 m)
       where
         turned : (b : Bool) → cond b (ltb o.0 q && is_rotated (recs w) front.0 lenf o.0 n tails) (eqb lenf 0 && eqb lenr 0) ≡ true → is_member same_unit (cond b (units_below o.0 (min (2 * n + 1) (1 + lenr + 2 * tails))) []) (p, 0) ≡ true → ⊥
         turned true h k = bank q front.0 lenf rear.0 lenr o n tails (min (2 * n + 1) (1 + lenr + 2 * tails)) (and_parts (ltb o.0 q) _ h).1 k
@@ -117,11 +117,11 @@ shown_by_top {w} law p r e work h = let s = discharged_by (recs w) (length w.nod
     by q (Append xs ys left o off) f m = absurd (first q _ f refl off left refl m)
     by q (Reverse xs left) f m = absurd (let p_is : p ≡ q = origin_of q 0 left (p, 0) m in not_both w p r (Reverse xs left) e work (ap (recs w) p_is ∙ f) refl)
     by q (LinkAll queue len size o off) f m = absurd (first q _ f refl off (3 * len) refl m)
-    by q (PushL t c e1 e2 o off size k) f m = absurd (first q _ f refl off (bits size) refl m)
-    by q (PushR t c e1 e2 o off size k) f m = absurd (first q _ f refl off (bits size) refl m)
+    by q (PushL c off t e1 e2 o size k) f m = absurd (first q _ f refl off (bits size) refl m)
+    by q (PushR c off t e1 e2 o size k) f m = absurd (first q _ f refl off (bits size) refl m)
     by q (DeepL t d size o off k) f m = absurd (first q _ f refl off (bits size) refl m)
     by q (DeepR t d size o off k) f m = absurd (first q _ f refl off (bits size) refl m)
-    by q (Concat a b d o off size k) f m = absurd (first q _ f refl off (bits size) refl m)
+    by q (Concat off a b d o size k) f m = absurd (first q _ f refl off (bits size) refl m)
     by q _ f m = absurd (true≢false (sym m))
 
 -- the need of an insert or a merge is paid for where that is

@@ -41,11 +41,11 @@ suspended {w} law s r m e made = by r e made
         record { pending = pend; size = n; size_is = size; counts = eqb-true n _ total ∙ ap length (sym (means_is (recs w) (lawful_names law) s r e)); of_level = f.0; rooted = f.1 }
 
     by : (r : Rec) → recs w s ≡ Some r → made_tree w r ≡ Some m → Suspended w s r
-    by (PushL t c e1 e2 o i z k) e h = let l = law.each s _ e in one (PushL t c e1 e2 o i z k) z e refl refl l.sizes l.finger
-    by (PushR t c e1 e2 o i z k) e h = let l = law.each s _ e in one (PushR t c e1 e2 o i z k) z e refl refl l.sizes l.finger
+    by (PushL c i t e1 e2 o z k) e h = let l = law.each s _ e in one (PushL c i t e1 e2 o z k) z e refl refl l.sizes l.finger
+    by (PushR c i t e1 e2 o z k) e h = let l = law.each s _ e in one (PushR c i t e1 e2 o z k) z e refl refl l.sizes l.finger
     by (DeepL a d z o i k) e h = let l = law.each s _ e in one (DeepL a d z o i k) z e refl refl l.sizes l.finger
     by (DeepR a d z o i k) e h = let l = law.each s _ e in one (DeepR a d z o i k) z e refl refl l.sizes l.finger
-    by (Concat a b d o i z k) e h = let l = law.each s _ e in one (Concat a b d o i z k) z e refl refl l.sizes l.finger
+    by (Concat i a b d o z k) e h = let l = law.each s _ e in one (Concat i a b d o z k) z e refl refl l.sizes l.finger
     by _ e h = cc
 
 -- the same of each suspension of a tree
@@ -58,11 +58,11 @@ suspended_tree {w} law s r e pend tree = by r e pend tree
         record { pending = pend; size = n; size_is = size; counts = eqb-true n _ total ∙ ap length (sym (means_is (recs w) (lawful_names law) s r e)); of_level = f.0; rooted = f.1 }
 
     by : (r : Rec) → recs w s ≡ Some r → is_pending r ≡ true → is_tree_rec r ≡ true → Suspended w s r
-    by (PushL t c e1 e2 o i z k) e h u = let l = law.each s _ e in one (PushL t c e1 e2 o i z k) z e refl refl l.sizes l.finger
-    by (PushR t c e1 e2 o i z k) e h u = let l = law.each s _ e in one (PushR t c e1 e2 o i z k) z e refl refl l.sizes l.finger
+    by (PushL c i t e1 e2 o z k) e h u = let l = law.each s _ e in one (PushL c i t e1 e2 o z k) z e refl refl l.sizes l.finger
+    by (PushR c i t e1 e2 o z k) e h u = let l = law.each s _ e in one (PushR c i t e1 e2 o z k) z e refl refl l.sizes l.finger
     by (DeepL a d z o i k) e h u = let l = law.each s _ e in one (DeepL a d z o i k) z e refl refl l.sizes l.finger
     by (DeepR a d z o i k) e h u = let l = law.each s _ e in one (DeepR a d z o i k) z e refl refl l.sizes l.finger
-    by (Concat a b d o i z k) e h u = let l = law.each s _ e in one (Concat a b d o i z k) z e refl refl l.sizes l.finger
+    by (Concat i a b d o z k) e h u = let l = law.each s _ e in one (Concat i a b d o z k) z e refl refl l.sizes l.finger
     by TEmpty e h u = absurd (true≢false (sym h))
     by (Single _ _ _) e h u = absurd (true≢false (sym h))
     by (Deep _ _ _ _ _) e h u = absurd (true≢false (sym h))
@@ -138,9 +138,9 @@ tree_size {w} law t r e is = by r e is
     by TEmpty e h = record { counts = rw (means_is (recs w) (lawful_names law) t TEmpty e) refl; small = omega arith }
     by (Single x z k) e h = let l = law.each t _ e in one (Single x z k) z e refl l.sizes (range_fields (Single x z k) l.range).1.1.0
     by (Deep a b c z k) e h = let l = law.each t _ e in one (Deep a b c z k) z e refl l.sizes (range_fields (Deep a b c z k) l.range).1.1.1.1.0
-    by (PushL x c e1 e2 o i z k) e h = let l = law.each t _ e in one (PushL x c e1 e2 o i z k) z e refl l.sizes (range_fields (PushL x c e1 e2 o i z k) l.range).1.1.1.1.1.1.1.0
-    by (PushR x c e1 e2 o i z k) e h = let l = law.each t _ e in one (PushR x c e1 e2 o i z k) z e refl l.sizes (range_fields (PushR x c e1 e2 o i z k) l.range).1.1.1.1.1.1.1.0
+    by (PushL c i x e1 e2 o z k) e h = let l = law.each t _ e in one (PushL c i x e1 e2 o z k) z e refl l.sizes (range_fields (PushL c i x e1 e2 o z k) l.range).1.1.1.1.1.1.1.0
+    by (PushR c i x e1 e2 o z k) e h = let l = law.each t _ e in one (PushR c i x e1 e2 o z k) z e refl l.sizes (range_fields (PushR c i x e1 e2 o z k) l.range).1.1.1.1.1.1.1.0
     by (DeepL a d z o i k) e h = let l = law.each t _ e in one (DeepL a d z o i k) z e refl l.sizes (range_fields (DeepL a d z o i k) l.range).1.1.1.0
     by (DeepR a d z o i k) e h = let l = law.each t _ e in one (DeepR a d z o i k) z e refl l.sizes (range_fields (DeepR a d z o i k) l.range).1.1.1.0
-    by (Concat a b d o i z k) e h = let l = law.each t _ e in one (Concat a b d o i z k) z e refl l.sizes (range_fields (Concat a b d o i z k) l.range).1.1.1.1.1.1.0
+    by (Concat i a b d o z k) e h = let l = law.each t _ e in one (Concat i a b d o z k) z e refl l.sizes (range_fields (Concat i a b d o z k) l.range).1.1.1.1.1.1.0
     by _ e h = absurd (true≢false (sym h))

@@ -77,11 +77,11 @@ level_size {w} law = from_lower (λ p. (r : Rec) → recs w p ≡ Some r → is_
     by p (Digit count e1 e2 e3 e4 z k) e is ih = one p count e1.0 (e2.0 ∷ e3.0 ∷ e4.0 ∷ []) _ (omega (arith, (digit_counts count e1 e2 e3 e4 z k (law.each p _ e).range).least)) (lawful_names law p _ e) ih
     by p (Single elem z k) e is ih = let n = (lawful_names law p _ e).0 in ih elem.0 n.0 n.1 n.2 (element_levelled n.1 n.3)
     by p (Deep left middle right z k) e is ih = let n = (lawful_names law p _ e).0 in part (means (recs w) left.0) (means (recs w) middle.0) (means (recs w) right.0) _ (inl (ih left.0 n.0 n.1 n.2 (digit_levelled n.1 n.3)))
-    by p (PushL tree count e1 e2 o i z k) e is ih = let x = one p count e1.0 (e2.0 ∷ []) _ (omega (arith, (push_left_counts tree count e1 e2 o i z k (law.each p _ e).range).least)) (lawful_names law p _ e).1 ih in let y = length-append (joined (means (recs w)) (take count (e1.0 ∷ e2.0 ∷ []))) (means (recs w) tree.0) in omega (arith, x, y)
-    by p (PushR tree count e1 e2 o i z k) e is ih = let x = one p count e1.0 (e2.0 ∷ []) _ (omega (arith, (push_right_counts tree count e1 e2 o i z k (law.each p _ e).range).least)) (lawful_names law p _ e).1 ih in let y = length-append (means (recs w) tree.0) (joined (means (recs w)) (take count (e1.0 ∷ e2.0 ∷ []))) in omega (arith, x, y)
+    by p (PushL count i tree e1 e2 o z k) e is ih = let x = one p count e1.0 (e2.0 ∷ []) _ (omega (arith, (push_left_counts tree count e1 e2 o i z k (law.each p _ e).range).least)) (lawful_names law p _ e).1 ih in let y = length-append (joined (means (recs w)) (take count (e1.0 ∷ e2.0 ∷ []))) (means (recs w) tree.0) in omega (arith, x, y)
+    by p (PushR count i tree e1 e2 o z k) e is ih = let x = one p count e1.0 (e2.0 ∷ []) _ (omega (arith, (push_right_counts tree count e1 e2 o i z k (law.each p _ e).range).least)) (lawful_names law p _ e).1 ih in let y = length-append (means (recs w) tree.0) (joined (means (recs w)) (take count (e1.0 ∷ e2.0 ∷ []))) in omega (arith, x, y)
     by p (DeepL middle digit z o i k) e is ih = let n = (lawful_names law p _ e).1.0 in let x = ih digit.0 n.0 n.1 n.2 (digit_levelled n.1 n.3) in let y = length-append (means (recs w) middle.0) (means (recs w) digit.0) in omega (arith, x, y)
     by p (DeepR middle digit z o i k) e is ih = let n = (lawful_names law p _ e).1.0 in let x = ih digit.0 n.0 n.1 n.2 (digit_levelled n.1 n.3) in let y = length-append (means (recs w) digit.0) (means (recs w) middle.0) in omega (arith, x, y)
-    by p (Concat left right list o i z k) e is ih = let n = (lawful_names law p _ e).1.1.0 in let x = ih list.0 n.0 n.1 n.2 (digit_levelled n.1 n.3) in let z1 = length-append (means (recs w) left.0 ++ means (recs w) list.0) (means (recs w) right.0) in let y = length-append (means (recs w) left.0) (means (recs w) list.0) in omega (arith, x, z1, y)
+    by p (Concat i left right list o z k) e is ih = let n = (lawful_names law p _ e).1.1.0 in let x = ih list.0 n.0 n.1 n.2 (digit_levelled n.1 n.3) in let z1 = length-append (means (recs w) left.0 ++ means (recs w) list.0) (means (recs w) right.0) in let y = length-append (means (recs w) left.0) (means (recs w) list.0) in omega (arith, x, z1, y)
     by p _ e is ih = absurd (true≢false (sym is))
 
 -- ---- finger suspensions are funded
@@ -95,11 +95,11 @@ shows p i o z n fam size =
     rw (a, b, c) refl
 
 pub first_shows : (rs : Records) (o : ℕ) (r : Rec) (n : ℕ) → is_pending r ≡ true → size_in r ≡ Some n → family_of o r ≡ (o, 0) → paid rs o r ≡ units_below o (bits n)
-first_shows rs o (PushL t c e1 e2 p i z k) n pend size fam = shows p.0 i o z n fam size
-first_shows rs o (PushR t c e1 e2 p i z k) n pend size fam = shows p.0 i o z n fam size
+first_shows rs o (PushL c i t e1 e2 p z k) n pend size fam = shows p.0 i o z n fam size
+first_shows rs o (PushR c i t e1 e2 p z k) n pend size fam = shows p.0 i o z n fam size
 first_shows rs o (DeepL a d z p i k) n pend size fam = shows p.0 i o z n fam size
 first_shows rs o (DeepR a d z p i k) n pend size fam = shows p.0 i o z n fam size
-first_shows rs o (Concat a b d p i z k) n pend size fam = shows p.0 i o z n fam size
+first_shows rs o (Concat i a b d p z k) n pend size fam = shows p.0 i o z n fam size
 first_shows rs o (Node _ _ _ _ _ _) n pend size fam = absurd (true≢false (sym pend))
 first_shows rs o (Digit _ _ _ _ _ _ _) n pend size fam = absurd (true≢false (sym pend))
 first_shows rs o (Single _ _ _) n pend size fam = absurd (true≢false (sym pend))

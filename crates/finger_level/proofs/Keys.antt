@@ -68,11 +68,11 @@ parts_of rs g p (Deep left middle right z k) h = (
   sooner (g right.0) _ _ (sooner (g middle.0) _ _ (whole (g left.0))),
   (sooner (g right.0) _ _ (later (g left.0) _ _ (whole (g middle.0))), (later (g left.0 ++ g middle.0) _ _ (whole (g right.0)), tt)),
 )
-parts_of rs g p (PushL tree count e1 e2 o i z k) h = (later (joined g (take count (e1.0 ∷ e2.0 ∷ []))) _ _ (whole (g tree.0)), All-map _ _ (λ q k. sooner (g tree.0) _ _ k) _ (joined_parts g sorts.Element count (e1.0 ∷ e2.0 ∷ [])))
-parts_of rs g p (PushR tree count e1 e2 o i z k) h = (sooner (joined g (take count (e1.0 ∷ e2.0 ∷ []))) _ _ (whole (g tree.0)), All-map _ _ (λ q k. later (g tree.0) _ _ k) _ (joined_parts g sorts.Element count (e1.0 ∷ e2.0 ∷ [])))
+parts_of rs g p (PushL count i tree e1 e2 o z k) h = (later (joined g (take count (e1.0 ∷ e2.0 ∷ []))) _ _ (whole (g tree.0)), All-map _ _ (λ q k. sooner (g tree.0) _ _ k) _ (joined_parts g sorts.Element count (e1.0 ∷ e2.0 ∷ [])))
+parts_of rs g p (PushR count i tree e1 e2 o z k) h = (sooner (joined g (take count (e1.0 ∷ e2.0 ∷ []))) _ _ (whole (g tree.0)), All-map _ _ (λ q k. later (g tree.0) _ _ k) _ (joined_parts g sorts.Element count (e1.0 ∷ e2.0 ∷ [])))
 parts_of rs g p (DeepL middle digit z o i k) h = (sooner (g digit.0) _ _ (whole (g middle.0)), (later (g middle.0) _ _ (whole (g digit.0)), tt))
 parts_of rs g p (DeepR middle digit z o i k) h = (later (g digit.0) _ _ (whole (g middle.0)), (sooner (g middle.0) _ _ (whole (g digit.0)), tt))
-parts_of rs g p (Concat left right list o i z k) h = (
+parts_of rs g p (Concat i left right list o z k) h = (
   sooner (g right.0) _ _ (sooner (g list.0) _ _ (whole (g left.0))),
   (later (g left.0 ++ g list.0) _ _ (whole (g right.0)), (sooner (g right.0) _ _ (later (g left.0) _ _ (whole (g list.0))), tt)),
 )
@@ -96,11 +96,11 @@ named_tree (Node count e1 e2 e3 z k) h = elements_named count (e1.0 ∷ e2.0 ∷
 named_tree (Digit count e1 e2 e3 e4 z k) h = elements_named count (e1.0 ∷ e2.0 ∷ e3.0 ∷ e4.0 ∷ [])
 named_tree (Single elem z k) h = (refl, tt)
 named_tree (Deep left middle right z k) h = (refl, (refl, (refl, tt)))
-named_tree (PushL tree count e1 e2 o i z k) h = (refl, elements_named count (e1.0 ∷ e2.0 ∷ []))
-named_tree (PushR tree count e1 e2 o i z k) h = (refl, elements_named count (e1.0 ∷ e2.0 ∷ []))
+named_tree (PushL count i tree e1 e2 o z k) h = (refl, elements_named count (e1.0 ∷ e2.0 ∷ []))
+named_tree (PushR count i tree e1 e2 o z k) h = (refl, elements_named count (e1.0 ∷ e2.0 ∷ []))
 named_tree (DeepL middle digit z o i k) h = (refl, (refl, tt))
 named_tree (DeepR middle digit z o i k) h = (refl, (refl, tt))
-named_tree (Concat left right list o i z k) h = (refl, (refl, (refl, tt)))
+named_tree (Concat i left right list o z k) h = (refl, (refl, (refl, tt)))
 named_tree _ h = absurd (true≢false (sym h))
 
 -- ---- rising lists

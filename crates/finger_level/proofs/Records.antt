@@ -63,11 +63,11 @@ push_counts count e2 h =
     let c1 = and_parts (leb 1 count) (leb count 2) c.0 in
     record { least = leb-true 1 count c1.0; most = leb-true count 2 c1.1 }
 
-pub push_left_counts : (t : Ref) (count : ℕ) (e1 e2 o : Ref) (i z : ℕ) (k : Item) → in_range (PushL t count e1 e2 o i z k) ≡ true → Counts 1 2 count
-push_left_counts t count e1 e2 o i z k h = push_counts count e2.0 (range_counts (PushL t count e1 e2 o i z k) h)
+pub push_left_counts : (t : Ref) (count : ℕ) (e1 e2 o : Ref) (i z : ℕ) (k : Item) → in_range (PushL count i t e1 e2 o z k) ≡ true → Counts 1 2 count
+push_left_counts t count e1 e2 o i z k h = push_counts count e2.0 (range_counts (PushL count i t e1 e2 o z k) h)
 
-pub push_right_counts : (t : Ref) (count : ℕ) (e1 e2 o : Ref) (i z : ℕ) (k : Item) → in_range (PushR t count e1 e2 o i z k) ≡ true → Counts 1 2 count
-push_right_counts t count e1 e2 o i z k h = push_counts count e2.0 (range_counts (PushR t count e1 e2 o i z k) h)
+pub push_right_counts : (t : Ref) (count : ℕ) (e1 e2 o : Ref) (i z : ℕ) (k : Item) → in_range (PushR count i t e1 e2 o z k) ≡ true → Counts 1 2 count
+push_right_counts t count e1 e2 o i z k h = push_counts count e2.0 (range_counts (PushR count i t e1 e2 o z k) h)
 
 -- ---- finger records
 
@@ -77,11 +77,11 @@ finger_means a b p g h (Node count e1 e2 e3 _ _) f s = joined_same g h sorts.Ele
 finger_means a b p g h (Digit count e1 e2 e3 e4 _ _) f s = joined_same g h sorts.Element count (e1.0 ∷ e2.0 ∷ e3.0 ∷ e4.0 ∷ []) s
 finger_means a b p g h (Single elem _ _) f s = s.0
 finger_means a b p g h (Deep left middle right _ _) f s = rw (s.0, s.1.0, s.1.1.0) refl
-finger_means a b p g h (PushL tree count e1 e2 _ _ _ _) f s = rw (s.0, joined_same g h sorts.Element count (e1.0 ∷ e2.0 ∷ []) s.1) refl
-finger_means a b p g h (PushR tree count e1 e2 _ _ _ _) f s = rw (s.0, joined_same g h sorts.Element count (e1.0 ∷ e2.0 ∷ []) s.1) refl
+finger_means a b p g h (PushL count _ tree e1 e2 _ _ _) f s = rw (s.0, joined_same g h sorts.Element count (e1.0 ∷ e2.0 ∷ []) s.1) refl
+finger_means a b p g h (PushR count _ tree e1 e2 _ _ _) f s = rw (s.0, joined_same g h sorts.Element count (e1.0 ∷ e2.0 ∷ []) s.1) refl
 finger_means a b p g h (DeepL middle digit _ _ _ _) f s = rw (s.0, s.1.0) refl
 finger_means a b p g h (DeepR middle digit _ _ _ _) f s = rw (s.0, s.1.0) refl
-finger_means a b p g h (Concat left right list _ _ _ _) f s = rw (s.0, s.1.0, s.1.1.0) refl
+finger_means a b p g h (Concat _ left right list _ _ _) f s = rw (s.0, s.1.0, s.1.1.0) refl
 finger_means a b p g h _ f s = absurd (true≢false (sym f))
 
 -- the laws of other structures say nothing of a finger record

@@ -83,11 +83,11 @@ level_unique {w} law = from_lower (λ p. (d : ℕ) (r : Rec) → recs w p ≡ So
     by p (Digit count e1 e2 e3 e4 z k) d e is ih h = at_some p count ih e1.0 d (e2.0 ∷ e3.0 ∷ e4.0 ∷ []) _ (omega (arith, (digit_counts count e1 e2 e3 e4 z k (law.each p _ e).range).least)) (lawful_names law p _ e) h
     by p (Single elem z k) d e is ih h = at_element p ih elem.0 d (lawful_names law p _ e).0 h
     by p (Deep left middle right z k) d e is ih h = at_digit p ih left.0 d (lawful_names law p _ e).0 (and_parts _ _ (and_parts _ _ h).0).0
-    by p (PushL tree count e1 e2 o i z k) d e is ih h = at_some p count ih e1.0 d (e2.0 ∷ []) _ (omega (arith, (push_left_counts tree count e1 e2 o i z k (law.each p _ e).range).least)) (lawful_names law p _ e).1 (and_parts _ _ h).1
-    by p (PushR tree count e1 e2 o i z k) d e is ih h = at_some p count ih e1.0 d (e2.0 ∷ []) _ (omega (arith, (push_right_counts tree count e1 e2 o i z k (law.each p _ e).range).least)) (lawful_names law p _ e).1 (and_parts _ _ h).1
+    by p (PushL count i tree e1 e2 o z k) d e is ih h = at_some p count ih e1.0 d (e2.0 ∷ []) _ (omega (arith, (push_left_counts tree count e1 e2 o i z k (law.each p _ e).range).least)) (lawful_names law p _ e).1 (and_parts _ _ h).1
+    by p (PushR count i tree e1 e2 o z k) d e is ih h = at_some p count ih e1.0 d (e2.0 ∷ []) _ (omega (arith, (push_right_counts tree count e1 e2 o i z k (law.each p _ e).range).least)) (lawful_names law p _ e).1 (and_parts _ _ h).1
     by p (DeepL middle digit z o i k) d e is ih h = at_digit p ih digit.0 d (lawful_names law p _ e).1.0 (and_parts _ _ h).1
     by p (DeepR middle digit z o i k) d e is ih h = at_digit p ih digit.0 d (lawful_names law p _ e).1.0 (and_parts _ _ h).1
-    by p (Concat left right list o i z k) d e is ih h = at_digit p ih list.0 d (lawful_names law p _ e).1.1.0 (and_parts _ _ h).1
+    by p (Concat i left right list o z k) d e is ih h = at_digit p ih list.0 d (lawful_names law p _ e).1.1.0 (and_parts _ _ h).1
     by p _ d e is ih h = absurd (true≢false (sym is))
 
 -- ---- heights

@@ -100,10 +100,10 @@ pub record IsLevel (w : World) (d limit : ℕ) (made : Made) : Type 0 where
 
 -- the record of a suspended push onto the tree t
 abbrev pub push_record : Side → Ref → Pushed → Ref → ℕ → Weight → Rec
-push_record sides.Left t (pushes.One e) o off w = PushL t 1 e no_place o off w.size w.key
-push_record sides.Left t (pushes.Two e f) o off w = PushL t 2 e f o off w.size w.key
-push_record sides.Right t (pushes.One e) o off w = PushR t 1 e no_place o off w.size w.key
-push_record sides.Right t (pushes.Two e f) o off w = PushR t 2 e f o off w.size w.key
+push_record sides.Left t (pushes.One e) o off w = PushL 1 off t e no_place o w.size w.key
+push_record sides.Left t (pushes.Two e f) o off w = PushL 2 off t e f o w.size w.key
+push_record sides.Right t (pushes.One e) o off w = PushR 1 off t e no_place o w.size w.key
+push_record sides.Right t (pushes.Two e f) o off w = PushR 2 off t e f o w.size w.key
 
 -- the place of a tree, or that of the empty one
 abbrev pub tree_at : Option Ref → Ref
@@ -223,7 +223,7 @@ pub record RowPut (old new : View) (before after : Span) (row : NodeRow) (es : F
 
 -- the record of a suspended concatenation, of two trees and the digit between them
 abbrev pub concat_record : Ref → Ref → Ref → Ref → ℕ → Weight → Rec
-concat_record l q r o off w = Concat l r q o off w.size w.key
+concat_record l q r o off w = Concat off l r q o w.size w.key
 
 -- what the put of a suspended concatenation asks
 pub record BetweenAsk (v : View) (run : Span) (l : Ref) (row : NodeRow) (r : Ref) (family : Family) : Type 0 where

@@ -82,11 +82,11 @@ pub shown_at : {w : World} (p q : ℕ) (m : Made) → IsValueAt w p q → option
 shown_at {w} p q m k h = rw k.value h
 
 finger_height : {w : World} → IsLawful w → (t : ℕ) (r : Rec) → recs w t ≡ Some r → is_pending r ≡ true → is_tree_rec r ≡ true → height (recs w) t ≡ (family_of t r).0
-finger_height law t (PushL a c e1 e2 o i z k) e pend tree = height_is law t _ e
-finger_height law t (PushR a c e1 e2 o i z k) e pend tree = height_is law t _ e
+finger_height law t (PushL c i a e1 e2 o z k) e pend tree = height_is law t _ e
+finger_height law t (PushR c i a e1 e2 o z k) e pend tree = height_is law t _ e
 finger_height law t (DeepL a d z o i k) e pend tree = height_is law t _ e
 finger_height law t (DeepR a d z o i k) e pend tree = height_is law t _ e
-finger_height law t (Concat a b d o i z k) e pend tree = height_is law t _ e
+finger_height law t (Concat i a b d o z k) e pend tree = height_is law t _ e
 finger_height law t TEmpty e pend tree = absurd (true≢false (sym pend))
 finger_height law t (Single _ _ _) e pend tree = absurd (true≢false (sym pend))
 finger_height law t (Deep _ _ _ _ _) e pend tree = absurd (true≢false (sym pend))

@@ -49,11 +49,11 @@ main_of s t = t
 -- the level that the work is told by: of a push that of its tree, of a tail that of its middle, of a concatenation that of the tree
 -- onto which its elements are pushed
 abbrev pub shown_by : World → Rec → Option Made
-shown_by w (PushL t _ _ _ _ _ _ _) = top.top_at w t.0
-shown_by w (PushR t _ _ _ _ _ _ _) = top.top_at w t.0
+shown_by w (PushL _ _ t _ _ _ _ _) = top.top_at w t.0
+shown_by w (PushR _ _ t _ _ _ _ _) = top.top_at w t.0
 shown_by w (DeepL m _ _ _ _ _) = top.top_at w m.0
 shown_by w (DeepR m _ _ _ _ _) = top.top_at w m.0
-shown_by w (Concat l r _ _ _ _ _) = option_and_then (λ s. option_map (main_of s) (top.top_at w r.0)) (top.top_at w l.0)
+shown_by w (Concat _ l r _ _ _ _) = option_and_then (λ s. option_map (main_of s) (top.top_at w r.0)) (top.top_at w l.0)
 shown_by w _ = None
 
 -- how many digits beside the one that it makes are new, by the level that it is told by

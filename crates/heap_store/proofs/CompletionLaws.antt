@@ -112,13 +112,13 @@ module _ (a b : World) (x : Grows a b) where
   is_tree_up (Some t) p = place_up a b x t p
 
   pub is_middle_up : (origin off : ℕ) (m : Middle) (s : Rec) → Up (is_middle a origin off m s) (is_middle b origin off m s)
-  is_middle_up origin off (push_left t ns) (PushL t' count e1 e2 _ _ _ _) = and_up (and_up (and_up (is_tree_up t t'.0) (are_nodes_up ns (take count (e1.0 ∷ e2.0 ∷ [])))) same_up) same_up
-  is_middle_up origin off (push_right t ns) (PushR t' count e1 e2 _ _ _ _) = and_up (and_up (and_up (is_tree_up t t'.0) (are_nodes_up ns (take count (e1.0 ∷ e2.0 ∷ [])))) same_up) same_up
+  is_middle_up origin off (push_left t ns) (PushL count _ t' e1 e2 _ _ _) = and_up (and_up (and_up (is_tree_up t t'.0) (are_nodes_up ns (take count (e1.0 ∷ e2.0 ∷ [])))) same_up) same_up
+  is_middle_up origin off (push_right t ns) (PushR count _ t' e1 e2 _ _ _) = and_up (and_up (and_up (is_tree_up t t'.0) (are_nodes_up ns (take count (e1.0 ∷ e2.0 ∷ [])))) same_up) same_up
   is_middle_up origin off (without_left m d) (DeepL m' d' _ _ _ _) = and_up (and_up (and_up (place_up a b x m m'.0) (is_digit_up d d'.0)) same_up) same_up
   is_middle_up origin off (without_right m d) (DeepR m' d' _ _ _ _) = and_up (and_up (and_up (place_up a b x m m'.0) (is_digit_up d d'.0)) same_up) same_up
   is_middle_up origin off (shorter_left es m r) (Deep l' m' r' _ _) = and_up (and_up (is_digit_up es l'.0) (place_up a b x m m'.0)) (is_digit_up r r'.0)
   is_middle_up origin off (shorter_right l m es) (Deep l' m' r' _ _) = and_up (and_up (is_digit_up l l'.0) (place_up a b x m m'.0)) (is_digit_up es r'.0)
-  is_middle_up origin off (between l r ns) (Concat l' r' d _ _ _ _) = and_up (and_up (and_up (and_up (place_up a b x l l'.0) (place_up a b x r r'.0)) (holds_up a b x d.0 _ _ (on_digit_up _ _ (are_nodes_up ns)))) same_up) same_up
+  is_middle_up origin off (between l r ns) (Concat _ l' r' d _ _ _) = and_up (and_up (and_up (and_up (place_up a b x l l'.0) (place_up a b x r r'.0)) (holds_up a b x d.0 _ _ (on_digit_up _ _ (are_nodes_up ns)))) same_up) same_up
   is_middle_up origin off _ _ = same_up
 
   pub is_middle_at_up : (origin off : ℕ) (m : Middle) (p : ℕ) → Up (is_middle_at a origin off m p) (is_middle_at b origin off m p)

@@ -129,11 +129,11 @@ next_link w (BankRot xs rear left o i) s h = let t = first_cell_to w xs.0 _ (and
 next_link w (RtRot xs rear acc left o i) s h = let t = first_cell_to w xs.0 _ (and_parts (ltb 0 left) _ h).1 in let k = at_true _ (recs w rear.0) t.3 in not_link_rt w t.2 acc.0 (left - 1) o.0 (suc i) s k.0 k.2
 next_link w (LinkAll queue len z o i) (LinkAll _ _ _ _ _) h = refl
 next_link w (LinkAll queue len z o i) _ h = absurd (true≢false (sym (and_parts (ltb 1 len) _ h).1))
-next_link w (PushL t c e1 e2 o i z k) s h = not_link s (λ l. no_link_tree w (PushL t c e1 e2 o i z k) s l h)
-next_link w (PushR t c e1 e2 o i z k) s h = not_link s (λ l. no_link_tree w (PushR t c e1 e2 o i z k) s l h)
+next_link w (PushL c i t e1 e2 o z k) s h = not_link s (λ l. no_link_tree w (PushL c i t e1 e2 o z k) s l h)
+next_link w (PushR c i t e1 e2 o z k) s h = not_link s (λ l. no_link_tree w (PushR c i t e1 e2 o z k) s l h)
 next_link w (DeepL m d z o i k) s h = not_link s (λ l. no_link_tree w (DeepL m d z o i k) s l h)
 next_link w (DeepR m d z o i k) s h = not_link s (λ l. no_link_tree w (DeepR m d z o i k) s l h)
-next_link w (Concat a b d o i z k) s h = not_link s (λ l. no_link_tree w (Concat a b d o i z k) s l h)
+next_link w (Concat i a b d o z k) s h = not_link s (λ l. no_link_tree w (Concat i a b d o z k) s l h)
 next_link w _ s h = absurd (true≢false (sym h))
 
 -- one that makes another has just the units of its own offset
@@ -143,11 +143,11 @@ next_cost w (Append xs ys left o i) s h = refl
 next_cost w (BankRot xs rear left o i) s h = let l = ltb-true 0 left (and_parts (ltb 0 left) _ h).0 in rw (ne_eqb left 0 (λ e. absurd (omega (arith, e, l)))) refl
 next_cost w (RtRot xs rear acc left o i) s h = refl
 next_cost w (LinkAll queue len z o i) s h = refl
-next_cost w (PushL t c e1 e2 o i z k) s h = refl
-next_cost w (PushR t c e1 e2 o i z k) s h = refl
+next_cost w (PushL c i t e1 e2 o z k) s h = refl
+next_cost w (PushR c i t e1 e2 o z k) s h = refl
 next_cost w (DeepL m d z o i k) s h = refl
 next_cost w (DeepR m d z o i k) s h = refl
-next_cost w (Concat a b d o i z k) s h = refl
+next_cost w (Concat i a b d o z k) s h = refl
 next_cost w _ s h = absurd (true≢false (sym h))
 
 -- ---- units of a lawful world

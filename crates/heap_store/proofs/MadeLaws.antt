@@ -131,15 +131,15 @@ module _ (a b : World) (names : NamesWell (recs a)) (x : Grows a b) where
   right_up q _ digit e = refl
 
   pub made_tree_up : (p : ℕ) (r : Rec) → recs a p ≡ Some r → (t : Made) → made_tree a r ≡ Some t → made_tree b r ≡ Some t
-  made_tree_up p (PushL t' count e1 e2 _ _ _ _) e t h = map_up _ (top_at a t'.0) (top_at b t'.0) (top_at_up t'.0) t h
-  made_tree_up p (PushR t' count e1 e2 _ _ _ _) e t h = map_up _ (top_at a t'.0) (top_at b t'.0) (top_at_up t'.0) t h
+  made_tree_up p (PushL count _ t' e1 e2 _ _ _) e t h = map_up _ (top_at a t'.0) (top_at b t'.0) (top_at_up t'.0) t h
+  made_tree_up p (PushR count _ t' e1 e2 _ _ _) e t h = map_up _ (top_at a t'.0) (top_at b t'.0) (top_at_up t'.0) t h
   made_tree_up p (DeepL middle digit z o i k) e t h = let n = names p (DeepL middle digit z o i k) e in
       rw (← elements_up digit.0 (there p _ n.1.0)) (then_up (λ m. from_middle_left a m (elements a digit.0)) (λ m. from_middle_left b m (elements a digit.0)) (value_at a middle.0) (value_at b middle.0)
       (λ r f. (value_up a b x middle.0 r f, (λ y k. let q = value_place middle.0 r f in sym (left_up q.0 r _ q.1) ∙ k))) t h)
   made_tree_up p (DeepR middle digit z o i k) e t h = let n = names p (DeepR middle digit z o i k) e in
       rw (← elements_up digit.0 (there p _ n.1.0)) (then_up (λ m. from_middle_right a m (elements a digit.0)) (λ m. from_middle_right b m (elements a digit.0)) (value_at a middle.0) (value_at b middle.0)
       (λ r f. (value_up a b x middle.0 r f, (λ y k. let q = value_place middle.0 r f in sym (right_up q.0 r _ q.1) ∙ k))) t h)
-  made_tree_up p (Concat left right list o i z k) e t h = let n = names p (Concat left right list o i z k) e in
+  made_tree_up p (Concat i left right list o z k) e t h = let n = names p (Concat i left right list o z k) e in
       rw (← elements_up list.0 (there p _ n.1.1.0)) (then_up _ _ (top_at a left.0) (top_at b left.0)
       (λ l f. (top_at_up left.0 l f, map_up (joined_trees l (elements a list.0)) (top_at a right.0) (top_at b right.0) (top_at_up right.0))) t h)
   made_tree_up p _ e t h = cc
@@ -160,11 +160,11 @@ module _ (a b : World) (names : NamesWell (recs a)) (x : Grows a b) where
   is_next_up p (BankRot xs rear left origin off) s e = and_up same_up (first_cell_up a b x xs.0 _ _ (λ c v rest. is_bank_up a b x rest rear.0 (left - 1) origin.0 (suc off) s))
   is_next_up p (RtRot xs rear acc left origin off) s e = and_up same_up (first_cell_up a b x xs.0 _ _ (λ c v rest. next_rt_up a b x rest rear.0 acc.0 left origin.0 off s))
   is_next_up p (LinkAll queue len z origin off) s e = and_up same_up (next_links_up a b x queue.0 len origin.0 off s)
-  is_next_up p (PushL t c e1 e2 o i z k) s e = next_tree_up p (PushL t c e1 e2 o i z k) s e
-  is_next_up p (PushR t c e1 e2 o i z k) s e = next_tree_up p (PushR t c e1 e2 o i z k) s e
+  is_next_up p (PushL c i t e1 e2 o z k) s e = next_tree_up p (PushL c i t e1 e2 o z k) s e
+  is_next_up p (PushR c i t e1 e2 o z k) s e = next_tree_up p (PushR c i t e1 e2 o z k) s e
   is_next_up p (DeepL m d z o i k) s e = next_tree_up p (DeepL m d z o i k) s e
   is_next_up p (DeepR m d z o i k) s e = next_tree_up p (DeepR m d z o i k) s e
-  is_next_up p (Concat l r d o i z k) s e = next_tree_up p (Concat l r d o i z k) s e
+  is_next_up p (Concat i l r d o z k) s e = next_tree_up p (Concat i l r d o z k) s e
   is_next_up p _ s e = same_up
 
   first_of_up : (xs place : ℕ) (f g : ℕ → ℕ → Bool) → ((r m : ℕ) → Up (f r m) (g r m)) → Up (is_first_of a xs place f) (is_first_of b xs place g)
@@ -191,9 +191,9 @@ module _ (a b : World) (names : NamesWell (recs a)) (x : Grows a b) where
   is_made_up p (LinkAll queue len z origin off) place e is = first_child_up queue.0 _ _ (λ child. cond_up (eqb len 1)
       (place_up a b x child place)
       (at_up _ _ (value_at a child) (value_at b child) (value_up a b x child) (λ r. holds_up a b x place _ _ (is_linked_up a b x r _ _ (λ made. holds_up a b x made _ _ (next_links_up a b x queue.0 len origin.0 off))))))
-  is_made_up p (PushL t c e1 e2 o i z k) place e is = tree_made_up p (PushL t c e1 e2 o i z k) place e
-  is_made_up p (PushR t c e1 e2 o i z k) place e is = tree_made_up p (PushR t c e1 e2 o i z k) place e
+  is_made_up p (PushL c i t e1 e2 o z k) place e is = tree_made_up p (PushL c i t e1 e2 o z k) place e
+  is_made_up p (PushR c i t e1 e2 o z k) place e is = tree_made_up p (PushR c i t e1 e2 o z k) place e
   is_made_up p (DeepL m d z o i k) place e is = tree_made_up p (DeepL m d z o i k) place e
   is_made_up p (DeepR m d z o i k) place e is = tree_made_up p (DeepR m d z o i k) place e
-  is_made_up p (Concat l r d o i z k) place e is = tree_made_up p (Concat l r d o i z k) place e
+  is_made_up p (Concat i l r d o z k) place e is = tree_made_up p (Concat i l r d o z k) place e
   is_made_up p _ place e is = same_up

@@ -104,7 +104,7 @@ module _ (a b : Records) (names : NamesWell a) (keeps : Keeps a b) (p : ℕ) (g 
 
   means_same : (r : Rec) → a p ≡ Some r → AllByRecursion (IsNamedWell a p) (named r) → AllByRecursion (λ q. g q.0 ≡ h q.0) (named r) → means_of a g p r ≡ means_of b h p r
   means_same (StreamTop front _) e n s = s.0
-  means_same (BankTop front _ rear _ _ _ _ _) e n s = queue_same front.0 rear.0 sorts.Stream sorts.List n.0 n.1.0
+  means_same (BankTop _ front _ rear _ _ _ _) e n s = queue_same front.0 rear.0 sorts.Stream sorts.List n.0 n.1.0
   means_same (RtTop front _ rear _ _) e n s = queue_same front.0 rear.0 sorts.Stream sorts.List n.0 n.1.0
   means_same (HeapTop list _ _) e n s = s.0
   means_same TNil e n s = refl
@@ -121,11 +121,11 @@ module _ (a b : Records) (names : NamesWell a) (keeps : Keeps a b) (p : ℕ) (g 
   means_same (Digit count e1 e2 e3 e4 _ _) e n s = joined_same g h sorts.Element count (e1.0 ∷ e2.0 ∷ e3.0 ∷ e4.0 ∷ []) s
   means_same (Single elem _ _) e n s = s.0
   means_same (Deep left middle right _ _) e n s = rw (s.0, s.1.0, s.1.1.0) refl
-  means_same (PushL tree count e1 e2 _ _ _ _) e n s = rw (s.0, joined_same g h sorts.Element count (e1.0 ∷ e2.0 ∷ []) s.1) refl
-  means_same (PushR tree count e1 e2 _ _ _ _) e n s = rw (s.0, joined_same g h sorts.Element count (e1.0 ∷ e2.0 ∷ []) s.1) refl
+  means_same (PushL count _ tree e1 e2 _ _ _) e n s = rw (s.0, joined_same g h sorts.Element count (e1.0 ∷ e2.0 ∷ []) s.1) refl
+  means_same (PushR count _ tree e1 e2 _ _ _) e n s = rw (s.0, joined_same g h sorts.Element count (e1.0 ∷ e2.0 ∷ []) s.1) refl
   means_same (DeepL middle digit _ _ _ _) e n s = rw (s.0, s.1.0) refl
   means_same (DeepR middle digit _ _ _ _) e n s = rw (s.0, s.1.0) refl
-  means_same (Concat left right list _ _ _ _) e n s = rw (s.0, s.1.0, s.1.1.0) refl
+  means_same (Concat _ left right list _ _ _) e n s = rw (s.0, s.1.0, s.1.1.0) refl
   means_same Nil e n s = own_same (_, e)
   means_same (Cons _ _ _) e n s = own_same (_, e)
   means_same LNil e n s = own_same (_, e)

@@ -64,11 +64,11 @@ level_look (Node count e1 e2 e3 _ _) g h s = rw (any_same g h sorts.Element coun
 level_look (Digit count e1 e2 e3 e4 _ _) g h s = any_same g h sorts.Element count e1.0 (e2.0 ∷ e3.0 ∷ e4.0 ∷ []) s
 level_look (Single elem _ _) g h s = s.0
 level_look (Deep left _ _ _ _) g h s = s.0
-level_look (PushL _ count e1 e2 _ _ _ _) g h s = any_same g h sorts.Element count e1.0 (e2.0 ∷ []) s.1
-level_look (PushR _ count e1 e2 _ _ _ _) g h s = any_same g h sorts.Element count e1.0 (e2.0 ∷ []) s.1
+level_look (PushL count _ _ e1 e2 _ _ _) g h s = any_same g h sorts.Element count e1.0 (e2.0 ∷ []) s.1
+level_look (PushR count _ _ e1 e2 _ _ _) g h s = any_same g h sorts.Element count e1.0 (e2.0 ∷ []) s.1
 level_look (DeepL _ digit _ _ _ _) g h s = s.1.0
 level_look (DeepR _ digit _ _ _ _) g h s = s.1.0
-level_look (Concat _ _ list _ _ _ _) g h s = s.1.1.0
+level_look (Concat _ _ _ list _ _ _) g h s = s.1.1.0
 level_look _ g h s = refl
 
 pub all_same : (g h : ℕ → ℕ → Bool) (s : Sort) (d n : ℕ) (ps : List ℕ) → AllByRecursion (λ (q : NamedPlace). g q.0 ≡ h q.0) (take n (map (λ p. (p, s)) ps)) → list_all (λ p. g p d) (take n ps) ≡ list_all (λ p. h p d) (take n ps)
@@ -84,11 +84,11 @@ level_at d (Digit count e1 e2 e3 e4 _ _) g h s = all_same g h sorts.Element d co
 level_at d TEmpty g h s = refl
 level_at d (Single elem _ _) g h s = rw s.0 refl
 level_at d (Deep left middle right _ _) g h s = rw (s.0, s.1.0, s.1.1.0) refl
-level_at d (PushL tree count e1 e2 _ _ _ _) g h s = rw (s.0, all_same g h sorts.Element d count (e1.0 ∷ e2.0 ∷ []) s.1) refl
-level_at d (PushR tree count e1 e2 _ _ _ _) g h s = rw (s.0, all_same g h sorts.Element d count (e1.0 ∷ e2.0 ∷ []) s.1) refl
+level_at d (PushL count _ tree e1 e2 _ _ _) g h s = rw (s.0, all_same g h sorts.Element d count (e1.0 ∷ e2.0 ∷ []) s.1) refl
+level_at d (PushR count _ tree e1 e2 _ _ _) g h s = rw (s.0, all_same g h sorts.Element d count (e1.0 ∷ e2.0 ∷ []) s.1) refl
 level_at d (DeepL middle digit _ _ _ _) g h s = rw (s.0, s.1.0) refl
 level_at d (DeepR middle digit _ _ _ _) g h s = rw (s.0, s.1.0) refl
-level_at d (Concat left right list _ _ _ _) g h s = rw (s.0, s.1.0, s.1.1.0) refl
+level_at d (Concat _ left right list _ _ _) g h s = rw (s.0, s.1.0, s.1.1.0) refl
 level_at d _ g h s = refl
 
 module _ (a b : Records) (names : NamesWell a) (keeps : Keeps a b) where
@@ -181,8 +181,8 @@ module _ (a b : Records) (names : NamesWell a) (keeps : Keeps a b) where
   size_means p (Digit count e1 e2 e3 e4 _ _) s h = rw (← joined_same (means a) (means b) sorts.Element count (e1.0 ∷ e2.0 ∷ e3.0 ∷ e4.0 ∷ []) (means_named _ s)) h
   size_means p (Single _ _ _) s h = rw (← s.0.means) h
   size_means p (Deep _ _ _ _ _) s h = rw (← s.0.means, ← s.1.0.means, ← s.1.1.0.means) h
-  size_means p (PushL _ count e1 e2 _ _ _ _) s h = rw (← s.0.means, ← joined_same (means a) (means b) sorts.Element count (e1.0 ∷ e2.0 ∷ []) (means_named _ s.1)) h
-  size_means p (PushR _ count e1 e2 _ _ _ _) s h = rw (← s.0.means, ← joined_same (means a) (means b) sorts.Element count (e1.0 ∷ e2.0 ∷ []) (means_named _ s.1)) h
+  size_means p (PushL count _ _ e1 e2 _ _ _) s h = rw (← s.0.means, ← joined_same (means a) (means b) sorts.Element count (e1.0 ∷ e2.0 ∷ []) (means_named _ s.1)) h
+  size_means p (PushR count _ _ e1 e2 _ _ _) s h = rw (← s.0.means, ← joined_same (means a) (means b) sorts.Element count (e1.0 ∷ e2.0 ∷ []) (means_named _ s.1)) h
   size_means p (DeepL _ _ _ _ _ _) s h = rw (← s.0.means, ← s.1.0.means) h
   size_means p (DeepR _ _ _ _ _ _) s h = rw (← s.0.means, ← s.1.0.means) h
   size_means p (Concat _ _ _ _ _ _ _) s h = rw (← s.0.means, ← s.1.0.means, ← s.1.1.0.means) h
@@ -210,7 +210,7 @@ module _ (a b : Records) (names : NamesWell a) (keeps : Keeps a b) where
   unmixed_by p (StreamTop front _) s = rw (is_stream_kept front.0 s.0.there, s.0.cells) refl
   unmixed_by p (Append xs ys _ _ _) s = rw (is_stream_kept xs.0 s.0.there, is_stream_kept ys.0 s.1.0.there, s.0.cells, s.1.0.cells) refl
   unmixed_by p (Reverse xs _) s = rw (is_stream_kept xs.0 s.0.there, s.0.cells) refl
-  unmixed_by p (BankTop front _ rear _ _ _ _ _) s = rw (bank_front_kept front.0 s.0.there, s.0.cells, s.1.0.cells) refl
+  unmixed_by p (BankTop _ front _ rear _ _ _ _) s = rw (bank_front_kept front.0 s.0.there, s.0.cells, s.1.0.cells) refl
   unmixed_by p (BankRot xs rear _ _ _) s = rw (s.0.cells, s.1.0.cells) refl
   unmixed_by p (RtTop front _ _ _ _) s = rt_front_kept front.0 s.0.there
   unmixed_by p (RtRot xs _ _ _ _ _) s = rt_front_kept xs.0 s.0.there
@@ -263,7 +263,7 @@ module _ (a b : Records) (names : NamesWell a) (keeps : Keeps a b) where
       (cond_up (leb tails n) (at_up _ _ (a front) (b front) (keeps front) (λ r. same_up)) (λ k. sym (plain_kept a b names keeps front is) ∙ k)) h
 
   banks_by : (p : ℕ) (r : Rec) → AllByRecursion (λ (q : NamedPlace). Same q.0) (named r) → Up (is_bank_queue a p r) (is_bank_queue b p r)
-  banks_by p (BankTop front lenf rear lenr rotated origin n tails) s = and_up same_up (cond_up rotated (and_up {x = ltb origin.0 p} same_up (rotated_up front.0 lenf origin.0 n tails s.0.there)) (same_up {x = eqb lenf 0 && eqb lenr 0}))
+  banks_by p (BankTop rotated front lenf rear lenr origin n tails) s = and_up same_up (cond_up rotated (and_up {x = ltb origin.0 p} same_up (rotated_up front.0 lenf origin.0 n tails s.0.there)) (same_up {x = eqb lenf 0 && eqb lenr 0}))
   banks_by p (BankRot xs rear left _ off) s = λ h. and_up {x = eqb (length (cells b rear.0)) (off + left + 1)} same_up
       (or_up (at_up _ _ (a xs.0) (b xs.0) (keeps xs.0) (λ r. same_up)) (λ k. sym (plain_kept a b names keeps xs.0 s.0.there) ∙ k)) (rw s.1.0.cells at h)
   banks_by p _ s = same_up

@@ -54,8 +54,8 @@ module _ (a b : World) (names : NamesWell (recs a)) (x : Grows a b) where
   looked_up : (p : ℕ) (op : Op) (longer : Bool) (r : Rec) → recs a p ≡ Some r → Up (looked_at a op longer r) (looked_at b op longer r)
   looked_up p ops.Head longer (StreamTop front _) e = is_value_up a b x front.0
   looked_up p ops.Tail longer (StreamTop front _) e = is_value_up a b x front.0
-  looked_up p ops.Head longer (BankTop front _ _ _ _ _ _ _) e = is_value_up a b x front.0
-  looked_up p ops.Tail longer (BankTop front _ _ _ _ _ _ _) e = is_value_up a b x front.0
+  looked_up p ops.Head longer (BankTop _ front _ _ _ _ _ _) e = is_value_up a b x front.0
+  looked_up p ops.Tail longer (BankTop _ front _ _ _ _ _ _) e = is_value_up a b x front.0
   looked_up p ops.Head longer (RtTop front _ _ _ _) e = is_value_up a b x front.0
   looked_up p ops.Tail longer (RtTop front _ _ _ sched) e = and_up (is_value_up a b x front.0) (is_value_up a b x sched.0)
   looked_up p ops.Snoc longer (RtTop _ _ _ _ sched) e = is_value_up a b x sched.0

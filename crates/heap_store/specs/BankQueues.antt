@@ -60,6 +60,6 @@ is_rotated rs front lenf origin n tails = holds rs origin (is_bank_origin n) && 
 
 -- a banker's queue is no longer behind than in front, and its front is what is left of its latest rotation (Okasaki, 6.3.2)
 abbrev pub is_bank_queue : Records → ℕ → Rec → Bool
-is_bank_queue rs p (BankTop front lenf rear lenr rotated origin n tails) = leb lenr lenf && cond rotated (ltb origin.0 p && is_rotated rs front.0 lenf origin.0 n tails) (eqb lenf 0 && eqb lenr 0)
+is_bank_queue rs p (BankTop rotated front lenf rear lenr origin n tails) = leb lenr lenf && cond rotated (ltb origin.0 p && is_rotated rs front.0 lenf origin.0 n tails) (eqb lenf 0 && eqb lenr 0)
 is_bank_queue rs p (BankRot xs rear left _ off) = eqb (length (cells rs rear.0)) (off + left + 1) && (holds rs xs.0 is_any_bank_rotation || is_plain rs xs.0)
 is_bank_queue rs p _ = true

@@ -20,11 +20,11 @@ is_next w (Append xs ys left origin off) s = ltb 1 left && first_cell w xs.0 (λ
 is_next w (BankRot xs rear left origin off) s = ltb 0 left && first_cell w xs.0 (λ c v rest. next_bank_rotation w rest rear.0 left origin.0 off s)
 is_next w (RtRot xs rear acc left origin off) s = ltb 0 left && first_cell w xs.0 (λ c v rest. next_rt_rotation w rest rear.0 acc.0 left origin.0 off s)
 is_next w (LinkAll queue len _ origin off) s = ltb 1 len && next_links w queue.0 len origin.0 off s
-is_next w (PushL t c e1 e2 o i z k) s = next_tree w (PushL t c e1 e2 o i z k) s
-is_next w (PushR t c e1 e2 o i z k) s = next_tree w (PushR t c e1 e2 o i z k) s
+is_next w (PushL c i t e1 e2 o z k) s = next_tree w (PushL c i t e1 e2 o z k) s
+is_next w (PushR c i t e1 e2 o z k) s = next_tree w (PushR c i t e1 e2 o z k) s
 is_next w (DeepL m d z o i k) s = next_tree w (DeepL m d z o i k) s
 is_next w (DeepR m d z o i k) s = next_tree w (DeepR m d z o i k) s
-is_next w (Concat l r d o i z k) s = next_tree w (Concat l r d o i z k) s
+is_next w (Concat i l r d o z k) s = next_tree w (Concat i l r d o z k) s
 is_next w _ _ = false
 
 -- the place holds what the suspension at p makes of its needs
@@ -43,9 +43,9 @@ is_made w p (HeapMerge _ _ _ _) place = same_forest (forest (recs w) p) (forest 
 is_made w p (LinkAll queue len _ origin off) place = first_child w queue.0 (λ child. cond (eqb len 1)
     (same_place w child place)
     (at_record false (λ a. holds (recs w) place (is_linked w a (λ made. holds (recs w) made (next_links w queue.0 len origin.0 off)))) (value_at w child)))
-is_made w p (PushL t c e1 e2 o i z k) place = is_tree_made w (PushL t c e1 e2 o i z k) place
-is_made w p (PushR t c e1 e2 o i z k) place = is_tree_made w (PushR t c e1 e2 o i z k) place
+is_made w p (PushL c i t e1 e2 o z k) place = is_tree_made w (PushL c i t e1 e2 o z k) place
+is_made w p (PushR c i t e1 e2 o z k) place = is_tree_made w (PushR c i t e1 e2 o z k) place
 is_made w p (DeepL m d z o i k) place = is_tree_made w (DeepL m d z o i k) place
 is_made w p (DeepR m d z o i k) place = is_tree_made w (DeepR m d z o i k) place
-is_made w p (Concat l r d o i z k) place = is_tree_made w (Concat l r d o i z k) place
+is_made w p (Concat i l r d o z k) place = is_tree_made w (Concat i l r d o z k) place
 is_made w p _ place = false

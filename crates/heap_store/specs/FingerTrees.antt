@@ -145,11 +145,11 @@ joined_trees (deep l m r) es (deep l' m' r') = deep l (middles m m' (grouped (r 
 
 -- the top level of what the completion makes, where its needs are done
 abbrev pub made_tree : World → Rec → Option Made
-made_tree w (PushL t count e1 e2 _ _ _ _) = option_map (push_all_left (take count (e1.0 ∷ e2.0 ∷ []))) (top_at w t.0)
-made_tree w (PushR t count e1 e2 _ _ _ _) = option_map (λ l. push_all_right l (take count (e1.0 ∷ e2.0 ∷ []))) (top_at w t.0)
+made_tree w (PushL count _ t e1 e2 _ _ _) = option_map (push_all_left (take count (e1.0 ∷ e2.0 ∷ []))) (top_at w t.0)
+made_tree w (PushR count _ t e1 e2 _ _ _) = option_map (λ l. push_all_right l (take count (e1.0 ∷ e2.0 ∷ []))) (top_at w t.0)
 made_tree w (DeepL middle digit _ _ _ _) = option_and_then (λ m. from_middle_left w m (elements w digit.0)) (value_at w middle.0)
 made_tree w (DeepR middle digit _ _ _ _) = option_and_then (λ m. from_middle_right w m (elements w digit.0)) (value_at w middle.0)
-made_tree w (Concat left right list _ _ _ _) = option_and_then (λ l. option_map (joined_trees l (elements w list.0)) (top_at w right.0)) (top_at w left.0)
+made_tree w (Concat _ left right list _ _ _) = option_and_then (λ l. option_map (joined_trees l (elements w list.0)) (top_at w right.0)) (top_at w left.0)
 made_tree w _ = None
 
 -- ---- the records that hold it
@@ -191,13 +191,13 @@ is_tree w (Some t) p = same_place w t p
 
 -- the record is that middle; a suspension is the family's of the given offset
 abbrev pub is_middle : World → ℕ → ℕ → Middle → Rec → Bool
-is_middle w origin off (push_left t ns) (PushL t' count e1 e2 origin' off' _ _) = is_tree w t t'.0 && are_nodes w ns (take count (e1.0 ∷ e2.0 ∷ [])) && eqb origin origin'.0 && eqb off off'
-is_middle w origin off (push_right t ns) (PushR t' count e1 e2 origin' off' _ _) = is_tree w t t'.0 && are_nodes w ns (take count (e1.0 ∷ e2.0 ∷ [])) && eqb origin origin'.0 && eqb off off'
+is_middle w origin off (push_left t ns) (PushL count off' t' e1 e2 origin' _ _) = is_tree w t t'.0 && are_nodes w ns (take count (e1.0 ∷ e2.0 ∷ [])) && eqb origin origin'.0 && eqb off off'
+is_middle w origin off (push_right t ns) (PushR count off' t' e1 e2 origin' _ _) = is_tree w t t'.0 && are_nodes w ns (take count (e1.0 ∷ e2.0 ∷ [])) && eqb origin origin'.0 && eqb off off'
 is_middle w origin off (without_left m d) (DeepL m' d' _ origin' off' _) = same_place w m m'.0 && is_digit w d d'.0 && eqb origin origin'.0 && eqb off off'
 is_middle w origin off (without_right m d) (DeepR m' d' _ origin' off' _) = same_place w m m'.0 && is_digit w d d'.0 && eqb origin origin'.0 && eqb off off'
 is_middle w origin off (shorter_left es m r) (Deep l' m' r' _ _) = is_digit w es l'.0 && same_place w m m'.0 && is_digit w r r'.0
 is_middle w origin off (shorter_right l m es) (Deep l' m' r' _ _) = is_digit w l l'.0 && same_place w m m'.0 && is_digit w es r'.0
-is_middle w origin off (between l r ns) (Concat l' r' d origin' off' _ _) = same_place w l l'.0 && same_place w r r'.0 && holds (recs w) d.0 (on_digit (are_nodes w ns)) && eqb origin origin'.0 && eqb off off'
+is_middle w origin off (between l r ns) (Concat off' l' r' d origin' _ _) = same_place w l l'.0 && same_place w r r'.0 && holds (recs w) d.0 (on_digit (are_nodes w ns)) && eqb origin origin'.0 && eqb off off'
 is_middle w origin off _ _ = false
 
 abbrev pub is_middle_at : World → ℕ → ℕ → Middle → ℕ → Bool

@@ -49,11 +49,11 @@ needs w (RtRot xs _ _ left _ _) = cond (eqb left 0) [] (xs.0 ∷ [])
 needs w (HeapInsert _ list _) = list.0 ∷ []
 needs w (HeapMerge list1 list2 _ _) = list1.0 ∷ list2.0 ∷ []
 needs w (LinkAll queue len _ _ _) = at_record [] (link_needs w len) (recs w queue.0)
-needs w (PushL tree _ _ _ _ _ _ _) = tree.0 ∷ []
-needs w (PushR tree _ _ _ _ _ _ _) = tree.0 ∷ []
+needs w (PushL _ _ tree _ _ _ _ _) = tree.0 ∷ []
+needs w (PushR _ _ tree _ _ _ _ _) = tree.0 ∷ []
 needs w (DeepL middle _ _ _ _ _) = middle.0 ∷ []
 needs w (DeepR middle _ _ _ _ _) = middle.0 ∷ []
-needs w (Concat left right _ _ _ _ _) = left.0 ∷ right.0 ∷ []
+needs w (Concat _ left right _ _ _ _) = left.0 ∷ right.0 ∷ []
 needs w _ = []
 
 -- ---- heights

@@ -228,8 +228,8 @@ is_reached w t p = reaches (length w.nodes) w p t && holds (recs w) t (λ s. is_
 abbrev pub may_seek : World → Op → ℕ → ℕ → Rec → Bool
 may_seek w ops.Head p t (StreamTop front _) = eqb front.0 t
 may_seek w ops.Tail p t (StreamTop front _) = eqb front.0 t
-may_seek w ops.Head p t (BankTop front _ _ _ _ _ _ _) = eqb front.0 t
-may_seek w ops.Tail p t (BankTop front _ _ _ _ _ _ _) = eqb front.0 t
+may_seek w ops.Head p t (BankTop _ front _ _ _ _ _ _) = eqb front.0 t
+may_seek w ops.Tail p t (BankTop _ front _ _ _ _ _ _) = eqb front.0 t
 may_seek w ops.Head p t (RtTop front _ _ _ _) = eqb front.0 t
 may_seek w ops.Tail p t (RtTop front _ _ _ sched) = eqb front.0 t || eqb sched.0 t
 may_seek w ops.Snoc p t (RtTop _ _ _ _ sched) = eqb sched.0 t

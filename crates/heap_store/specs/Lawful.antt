@@ -70,7 +70,7 @@ abbrev pub is_unmixed : Records → ℕ → Rec → Bool
 is_unmixed rs p (StreamTop front _) = is_stream rs front.0 && has_items rs front.0
 is_unmixed rs p (Append xs ys _ _ _) = is_stream rs xs.0 && is_stream rs ys.0 && has_items rs xs.0 && has_items rs ys.0
 is_unmixed rs p (Reverse xs _) = is_stream rs xs.0 && has_items rs xs.0
-is_unmixed rs p (BankTop front _ rear _ _ _ _ _) = is_bank_front rs front.0 && has_items rs front.0 && has_items rs rear.0
+is_unmixed rs p (BankTop _ front _ rear _ _ _ _) = is_bank_front rs front.0 && has_items rs front.0 && has_items rs rear.0
 is_unmixed rs p (BankRot xs rear _ _ _) = has_items rs xs.0 && has_items rs rear.0
 is_unmixed rs p (RtTop front _ _ _ _) = is_rt_front rs front.0
 is_unmixed rs p (RtRot xs _ _ _ _ _) = is_rt_front rs xs.0

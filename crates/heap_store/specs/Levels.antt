@@ -20,11 +20,11 @@ level_from lower (Node count e1 _ _ _ _) = suc (if_any count (lower e1.0))
 level_from lower (Digit count e1 _ _ _ _ _) = if_any count (lower e1.0)
 level_from lower (Single elem _ _) = lower elem.0
 level_from lower (Deep left _ _ _ _) = lower left.0
-level_from lower (PushL _ count e1 _ _ _ _ _) = if_any count (lower e1.0)
-level_from lower (PushR _ count e1 _ _ _ _ _) = if_any count (lower e1.0)
+level_from lower (PushL count _ _ e1 _ _ _ _) = if_any count (lower e1.0)
+level_from lower (PushR count _ _ e1 _ _ _ _) = if_any count (lower e1.0)
 level_from lower (DeepL _ digit _ _ _ _) = lower digit.0
 level_from lower (DeepR _ digit _ _ _ _) = lower digit.0
-level_from lower (Concat _ _ list _ _ _ _) = lower list.0
+level_from lower (Concat _ _ _ list _ _ _) = lower list.0
 level_from lower _ = 0
 
 unfoldable pub level : Records → ℕ → ℕ
@@ -39,11 +39,11 @@ level_of lower (Digit count e1 e2 e3 e4 _ _) d = list_all (λ p. lower p d) (tak
 level_of lower TEmpty d = true
 level_of lower (Single elem _ _) d = lower elem.0 d
 level_of lower (Deep left middle right _ _) d = lower left.0 d && lower middle.0 (suc d) && lower right.0 d
-level_of lower (PushL tree count e1 e2 _ _ _ _) d = lower tree.0 d && list_all (λ p. lower p d) (take count (e1.0 ∷ e2.0 ∷ []))
-level_of lower (PushR tree count e1 e2 _ _ _ _) d = lower tree.0 d && list_all (λ p. lower p d) (take count (e1.0 ∷ e2.0 ∷ []))
+level_of lower (PushL count _ tree e1 e2 _ _ _) d = lower tree.0 d && list_all (λ p. lower p d) (take count (e1.0 ∷ e2.0 ∷ []))
+level_of lower (PushR count _ tree e1 e2 _ _ _) d = lower tree.0 d && list_all (λ p. lower p d) (take count (e1.0 ∷ e2.0 ∷ []))
 level_of lower (DeepL middle digit _ _ _ _) d = lower middle.0 (suc d) && lower digit.0 d
 level_of lower (DeepR middle digit _ _ _ _) d = lower middle.0 (suc d) && lower digit.0 d
-level_of lower (Concat left right list _ _ _ _) d = lower left.0 d && lower right.0 d && lower list.0 d
+level_of lower (Concat _ left right list _ _ _) d = lower left.0 d && lower right.0 d && lower list.0 d
 level_of lower _ d = false
 
 unfoldable pub is_of_level : Records → ℕ → ℕ → Bool

@@ -30,8 +30,8 @@ has_one w digit = eqb (length (elements w digit)) 1
 abbrev pub looked_at : World → Op → Bool → Rec → Bool
 looked_at w ops.Head longer (StreamTop front _) = is_value w front.0
 looked_at w ops.Tail longer (StreamTop front _) = is_value w front.0
-looked_at w ops.Head longer (BankTop front _ _ _ _ _ _ _) = is_value w front.0
-looked_at w ops.Tail longer (BankTop front _ _ _ _ _ _ _) = is_value w front.0
+looked_at w ops.Head longer (BankTop _ front _ _ _ _ _ _) = is_value w front.0
+looked_at w ops.Tail longer (BankTop _ front _ _ _ _ _ _) = is_value w front.0
 looked_at w ops.Head longer (RtTop front _ _ _ _) = is_value w front.0
 looked_at w ops.Tail longer (RtTop front _ _ _ sched) = is_value w front.0 && is_value w sched.0
 looked_at w ops.Snoc longer (RtTop _ _ _ _ sched) = is_value w sched.0

@@ -28,7 +28,7 @@ is_size xs (Some n) = eqb n (length xs)
 -- before the record stands at its place
 abbrev pub has_sizes : Records → ℕ → Rec → Bool
 has_sizes rs p (StreamTop front size) = eqb size (length (cells rs front.0))
-has_sizes rs p (BankTop front lenf rear lenr _ _ _ _) = eqb lenf (length (cells rs front.0)) && eqb lenr (length (cells rs rear.0))
+has_sizes rs p (BankTop _ front lenf rear lenr _ _ _) = eqb lenf (length (cells rs front.0)) && eqb lenr (length (cells rs rear.0))
 has_sizes rs p (RtTop front lenf rear lenr _) = eqb lenf (length (cells rs front.0)) && eqb lenr (length (cells rs rear.0))
 has_sizes rs p (HeapTop list size _) = eqb size (length (means rs list.0))
 has_sizes rs p (CatNode _ kids size) = eqb size (suc (length (means rs kids.0)))

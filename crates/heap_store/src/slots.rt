@@ -9,7 +9,7 @@ use lazy_rec::{Rec, Ref, SuspState};
 use std::alloc::{AllocError, Global};
 use std::marker::Model;
 
-/// The state of a place, or that nothing is published there. Short fields come first, so that a slot has 56 bytes.
+/// The state of a place, or that nothing is published there. Short fields come first, so that a slot has 48 bytes.
 #[derive(Clone, Copy)]
 enum SlotState {
     Free,

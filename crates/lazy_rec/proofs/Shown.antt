@@ -36,8 +36,8 @@ shown-words_of (StreamTop cells total) h =
     let ws = words_of r in
     let e : (at ws 0 6 22 ≡ cells.0) × (at ws 0 28 31 ≡ total) = omega arith in
     picked 5 r (omega arith) (rw (e.0, e.1) refl)
-shown-words_of (BankTop front lenf rear lenr rotated origin n tails) h =
-    let r : Rec = BankTop front lenf rear lenr rotated origin n tails in
+shown-words_of (BankTop rotated front lenf rear lenr origin n tails) h =
+    let r : Rec = BankTop rotated front lenf rear lenr origin n tails in
     let fit = fields-fit r h in
     let ws = words_of r in
     let e : (at ws 0 6 22 ≡ front.0) × (at ws 0 28 31 ≡ lenf) × (at ws 1 0 22 ≡ rear.0) × (at ws 1 22 31 ≡ lenr) × (at ws 1 53 1 ≡ cond rotated 1 0) × (at ws 2 0 22 ≡ origin.0) × (at ws 2 22 31 ≡ n) × (at ws 3 0 31 ≡ tails) = omega arith in
@@ -147,14 +147,14 @@ shown-words_of (LinkAll queue len total origin off) h =
     let ws = words_of r in
     let e : (at ws 0 6 22 ≡ queue.0) × (at ws 0 28 31 ≡ len) × (at ws 1 0 31 ≡ total) × (at ws 1 31 22 ≡ origin.0) × (at ws 2 0 31 ≡ off) = omega arith in
     picked 38 r (omega arith) (rw (e.0, e.1, e.2, e.3, e.4) refl)
-shown-words_of (PushL tree count e1 e2 origin off total key) h =
-    let r : Rec = PushL tree count e1 e2 origin off total key in
+shown-words_of (PushL count off tree e1 e2 origin total key) h =
+    let r : Rec = PushL count off tree e1 e2 origin total key in
     let fit = fields-fit r h in
     let ws = words_of r in
     let e : (at ws 0 6 22 ≡ tree.0) × (at ws 0 28 2 ≡ count) × (at ws 0 30 22 ≡ e1.0) × (at ws 1 0 22 ≡ e2.0) × (at ws 1 22 22 ≡ origin.0) × (at ws 1 44 5 ≡ off) × (at ws 2 0 31 ≡ total) × (value_at ws 3 ≡ key.0) = omega arith in
     picked 39 r (omega arith) (rw (e.0, e.1, e.2, e.3, e.4, e.5, e.6, e.7) refl)
-shown-words_of (PushR tree count e1 e2 origin off total key) h =
-    let r : Rec = PushR tree count e1 e2 origin off total key in
+shown-words_of (PushR count off tree e1 e2 origin total key) h =
+    let r : Rec = PushR count off tree e1 e2 origin total key in
     let fit = fields-fit r h in
     let ws = words_of r in
     let e : (at ws 0 6 22 ≡ tree.0) × (at ws 0 28 2 ≡ count) × (at ws 0 30 22 ≡ e1.0) × (at ws 1 0 22 ≡ e2.0) × (at ws 1 22 22 ≡ origin.0) × (at ws 1 44 5 ≡ off) × (at ws 2 0 31 ≡ total) × (value_at ws 3 ≡ key.0) = omega arith in
@@ -171,8 +171,8 @@ shown-words_of (DeepR middle digit total origin off key) h =
     let ws = words_of r in
     let e : (at ws 0 6 22 ≡ middle.0) × (at ws 0 28 22 ≡ digit.0) × (at ws 1 0 31 ≡ total) × (at ws 1 31 22 ≡ origin.0) × (at ws 1 53 5 ≡ off) × (value_at ws 2 ≡ key.0) = omega arith in
     picked 42 r (omega arith) (rw (e.0, e.1, e.2, e.3, e.4, e.5) refl)
-shown-words_of (Concat left right list origin off total key) h =
-    let r : Rec = Concat left right list origin off total key in
+shown-words_of (Concat off left right list origin total key) h =
+    let r : Rec = Concat off left right list origin total key in
     let fit = fields-fit r h in
     let ws = words_of r in
     let e : (at ws 0 6 22 ≡ left.0) × (at ws 0 28 22 ≡ right.0) × (at ws 1 0 22 ≡ list.0) × (at ws 1 22 22 ≡ origin.0) × (at ws 1 44 5 ≡ off) × (at ws 2 0 31 ≡ total) × (value_at ws 3 ≡ key.0) = omega arith in

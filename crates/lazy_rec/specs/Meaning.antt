@@ -45,7 +45,7 @@ joined lower places = flat_map lower places
 -- with each child replaced by its meaning; for heaps the rising list of all items below
 abbrev pub means_of : Records → (ℕ → List ℕ) → ℕ → Rec → List ℕ
 means_of recs lower p (StreamTop front _) = lower front.0
-means_of recs lower p (BankTop front _ rear _ _ _ _ _) = flat_map (items_of lower) (cells recs front.0 ++ reverse (cells recs rear.0))
+means_of recs lower p (BankTop _ front _ rear _ _ _ _) = flat_map (items_of lower) (cells recs front.0 ++ reverse (cells recs rear.0))
 means_of recs lower p (RtTop front _ rear _ _) = flat_map (items_of lower) (cells recs front.0 ++ reverse (cells recs rear.0))
 means_of recs lower p (HeapTop list _ _) = lower list.0
 means_of recs lower p TNil = []
@@ -62,11 +62,11 @@ means_of recs lower p (Node count e1 e2 e3 _ _) = joined lower (take count (e1.0
 means_of recs lower p (Digit count e1 e2 e3 e4 _ _) = joined lower (take count (e1.0 ∷ e2.0 ∷ e3.0 ∷ e4.0 ∷ []))
 means_of recs lower p (Single elem _ _) = lower elem.0
 means_of recs lower p (Deep left middle right _ _) = lower left.0 ++ lower middle.0 ++ lower right.0
-means_of recs lower p (PushL tree count e1 e2 _ _ _ _) = joined lower (take count (e1.0 ∷ e2.0 ∷ [])) ++ lower tree.0
-means_of recs lower p (PushR tree count e1 e2 _ _ _ _) = lower tree.0 ++ joined lower (take count (e1.0 ∷ e2.0 ∷ []))
+means_of recs lower p (PushL count _ tree e1 e2 _ _ _) = joined lower (take count (e1.0 ∷ e2.0 ∷ [])) ++ lower tree.0
+means_of recs lower p (PushR count _ tree e1 e2 _ _ _) = lower tree.0 ++ joined lower (take count (e1.0 ∷ e2.0 ∷ []))
 means_of recs lower p (DeepL middle digit _ _ _ _) = lower middle.0 ++ lower digit.0
 means_of recs lower p (DeepR middle digit _ _ _ _) = lower digit.0 ++ lower middle.0
-means_of recs lower p (Concat left right list _ _ _ _) = lower left.0 ++ lower list.0 ++ lower right.0
+means_of recs lower p (Concat _ left right list _ _ _) = lower left.0 ++ lower list.0 ++ lower right.0
 means_of recs lower p _ = flat_map (items_of lower) (cells recs p)
 
 abbrev pub means_at : Records → (ℕ → List ℕ) → ℕ → Option Rec → List ℕ

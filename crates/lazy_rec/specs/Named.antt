@@ -72,7 +72,7 @@ named (Cons child value rest) = (rest.0, sorts.Stream) ∷ child_named child val
 named LNil = []
 named (LCons child value rest) = (rest.0, sorts.List) ∷ child_named child value
 named (StreamTop cells _) = (cells.0, sorts.Stream) ∷ []
-named (BankTop front _ rear _ _ _ _ _) = (front.0, sorts.Stream) ∷ (rear.0, sorts.List) ∷ []
+named (BankTop _ front _ rear _ _ _ _) = (front.0, sorts.Stream) ∷ (rear.0, sorts.List) ∷ []
 named (RtTop front _ rear _ sched) = (front.0, sorts.Stream) ∷ (rear.0, sorts.List) ∷ (sched.0, sorts.Stream) ∷ []
 named (HeapTop list _ _) = (list.0, sorts.TreeList) ∷ []
 named TNil = []
@@ -93,11 +93,11 @@ named (RtRot xs rear acc _ _ _) = (xs.0, sorts.Stream) ∷ (rear.0, sorts.List) 
 named (HeapInsert _ list _) = (list.0, sorts.TreeList) ∷ []
 named (HeapMerge list1 list2 _ _) = (list1.0, sorts.TreeList) ∷ (list2.0, sorts.TreeList) ∷ []
 named (LinkAll queue _ _ _ _) = (queue.0, sorts.RtTop) ∷ []
-named (PushL tree count e1 e2 _ _ _ _) = (tree.0, sorts.Finger) ∷ take count ((e1.0, sorts.Element) ∷ (e2.0, sorts.Element) ∷ [])
-named (PushR tree count e1 e2 _ _ _ _) = (tree.0, sorts.Finger) ∷ take count ((e1.0, sorts.Element) ∷ (e2.0, sorts.Element) ∷ [])
+named (PushL count _ tree e1 e2 _ _ _) = (tree.0, sorts.Finger) ∷ take count ((e1.0, sorts.Element) ∷ (e2.0, sorts.Element) ∷ [])
+named (PushR count _ tree e1 e2 _ _ _) = (tree.0, sorts.Finger) ∷ take count ((e1.0, sorts.Element) ∷ (e2.0, sorts.Element) ∷ [])
 named (DeepL middle digit _ _ _ _) = (middle.0, sorts.Finger) ∷ (digit.0, sorts.Digit) ∷ []
 named (DeepR middle digit _ _ _ _) = (middle.0, sorts.Finger) ∷ (digit.0, sorts.Digit) ∷ []
-named (Concat left right list _ _ _ _) = (left.0, sorts.Finger) ∷ (right.0, sorts.Finger) ∷ (list.0, sorts.Digit) ∷ []
+named (Concat _ left right list _ _ _) = (left.0, sorts.Finger) ∷ (right.0, sorts.Finger) ∷ (list.0, sorts.Digit) ∷ []
 
 -- the record at each place, or none where the place isn't published
 abbrev pub Records : Type 0

@@ -66,7 +66,7 @@ fields (Cons child v rest) = tag 2 ∷ flag child ∷ value v ∷ place rest ∷
 fields LNil = tag 3 ∷ []
 fields (LCons child v rest) = tag 4 ∷ flag child ∷ value v ∷ place rest ∷ []
 fields (StreamTop cells total) = tag 5 ∷ place cells ∷ size total ∷ []
-fields (BankTop front lenf rear lenr rotated origin n tails) = tag 6 ∷ place front ∷ size lenf ∷ place rear ∷ size lenr ∷ flag rotated ∷ place origin ∷ size n ∷ size tails ∷ []
+fields (BankTop rotated front lenf rear lenr origin n tails) = tag 6 ∷ place front ∷ size lenf ∷ place rear ∷ size lenr ∷ flag rotated ∷ place origin ∷ size n ∷ size tails ∷ []
 fields (RtTop front lenf rear lenr sched) = tag 7 ∷ place front ∷ size lenf ∷ place rear ∷ size lenr ∷ place sched ∷ []
 fields (HeapTop list total owed) = tag 8 ∷ place list ∷ size total ∷ small 6 owed ∷ []
 fields TNil = tag 9 ∷ []
@@ -87,22 +87,22 @@ fields (RtRot xs rear acc left origin off) = tag 35 ∷ place xs ∷ place rear 
 fields (HeapInsert x list total) = tag 36 ∷ item x ∷ place list ∷ size total ∷ []
 fields (HeapMerge list1 list2 n1 n2) = tag 37 ∷ place list1 ∷ place list2 ∷ size n1 ∷ size n2 ∷ []
 fields (LinkAll queue len total origin off) = tag 38 ∷ place queue ∷ size len ∷ size total ∷ place origin ∷ size off ∷ []
-fields (PushL tree count e1 e2 origin off total key) = tag 39 ∷ place tree ∷ small 2 count ∷ place e1 ∷ place e2 ∷ place origin ∷ small 5 off ∷ size total ∷ item key ∷ []
-fields (PushR tree count e1 e2 origin off total key) = tag 40 ∷ place tree ∷ small 2 count ∷ place e1 ∷ place e2 ∷ place origin ∷ small 5 off ∷ size total ∷ item key ∷ []
+fields (PushL count off tree e1 e2 origin total key) = tag 39 ∷ place tree ∷ small 2 count ∷ place e1 ∷ place e2 ∷ place origin ∷ small 5 off ∷ size total ∷ item key ∷ []
+fields (PushR count off tree e1 e2 origin total key) = tag 40 ∷ place tree ∷ small 2 count ∷ place e1 ∷ place e2 ∷ place origin ∷ small 5 off ∷ size total ∷ item key ∷ []
 fields (DeepL middle digit total origin off key) = tag 41 ∷ place middle ∷ place digit ∷ size total ∷ place origin ∷ small 5 off ∷ item key ∷ []
 fields (DeepR middle digit total origin off key) = tag 42 ∷ place middle ∷ place digit ∷ size total ∷ place origin ∷ small 5 off ∷ item key ∷ []
-fields (Concat left right list origin off total key) = tag 43 ∷ place left ∷ place right ∷ place list ∷ place origin ∷ small 5 off ∷ size total ∷ item key ∷ []
+fields (Concat off left right list origin total key) = tag 43 ∷ place left ∷ place right ∷ place list ∷ place origin ∷ small 5 off ∷ size total ∷ item key ∷ []
 
 -- what a record keeps beside the widths of its fields: the elements that a count leaves unused are 0, a child's value is a
 -- place, and a banker's queue without a rotation has 0 in the fields of one
 abbrev pub has_unused_zero : Rec → Bool
 has_unused_zero (Cons child v rest) = implies child (ltb v MOST_PLACES)
 has_unused_zero (LCons child v rest) = implies child (ltb v MOST_PLACES)
-has_unused_zero (BankTop front lenf rear lenr rotated origin n tails) = rotated || (eqb origin.0 0 && eqb n 0 && eqb tails 0)
+has_unused_zero (BankTop rotated front lenf rear lenr origin n tails) = rotated || (eqb origin.0 0 && eqb n 0 && eqb tails 0)
 has_unused_zero (Node count e1 e2 e3 _ _) = leb 2 count && (ltb 2 count || eqb e3.0 0)
 has_unused_zero (Digit count e1 e2 e3 e4 _ _) = leb 1 count && leb count 4 && (ltb 3 count || eqb e4.0 0) && (ltb 2 count || eqb e3.0 0) && (ltb 1 count || eqb e2.0 0)
-has_unused_zero (PushL _ count e1 e2 _ _ _ _) = leb 1 count && leb count 2 && (ltb 1 count || eqb e2.0 0)
-has_unused_zero (PushR _ count e1 e2 _ _ _ _) = leb 1 count && leb count 2 && (ltb 1 count || eqb e2.0 0)
+has_unused_zero (PushL count _ _ e1 e2 _ _ _) = leb 1 count && leb count 2 && (ltb 1 count || eqb e2.0 0)
+has_unused_zero (PushR count _ _ e1 e2 _ _ _) = leb 1 count && leb count 2 && (ltb 1 count || eqb e2.0 0)
 has_unused_zero _ = true
 
 -- each field of the record is in its range

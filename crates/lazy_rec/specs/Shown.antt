@@ -30,7 +30,7 @@ tagged tag ws =
     (cond (eqb tag 3) LNil
     (cond (eqb tag 4) (LCons (flag_at ws 0 6) (value_at ws 1) (place_at ws 2 0))
     (cond (eqb tag 5) (StreamTop (place_at ws 0 6) (at ws 0 28 31))
-    (cond (eqb tag 6) (BankTop (place_at ws 0 6) (at ws 0 28 31) (place_at ws 1 0) (at ws 1 22 31) (flag_at ws 1 53) (place_at ws 2 0) (at ws 2 22 31) (at ws 3 0 31))
+    (cond (eqb tag 6) (BankTop (flag_at ws 1 53) (place_at ws 0 6) (at ws 0 28 31) (place_at ws 1 0) (at ws 1 22 31) (place_at ws 2 0) (at ws 2 22 31) (at ws 3 0 31))
     (cond (eqb tag 7) (RtTop (place_at ws 0 6) (at ws 0 28 31) (place_at ws 1 0) (at ws 1 22 31) (place_at ws 2 0))
     (cond (eqb tag 8) (HeapTop (place_at ws 0 6) (at ws 0 28 31) (at ws 1 0 6))
     (cond (eqb tag 9) TNil
@@ -51,11 +51,11 @@ tagged tag ws =
     (cond (eqb tag 36) (HeapInsert (item_at ws 1) (place_at ws 2 0) (at ws 2 22 31))
     (cond (eqb tag 37) (HeapMerge (place_at ws 0 6) (place_at ws 0 28) (at ws 1 0 31) (at ws 1 31 31))
     (cond (eqb tag 38) (LinkAll (place_at ws 0 6) (at ws 0 28 31) (at ws 1 0 31) (place_at ws 1 31) (at ws 2 0 31))
-    (cond (eqb tag 39) (PushL (place_at ws 0 6) (at ws 0 28 2) (place_at ws 0 30) (place_at ws 1 0) (place_at ws 1 22) (at ws 1 44 5) (at ws 2 0 31) (item_at ws 3))
-    (cond (eqb tag 40) (PushR (place_at ws 0 6) (at ws 0 28 2) (place_at ws 0 30) (place_at ws 1 0) (place_at ws 1 22) (at ws 1 44 5) (at ws 2 0 31) (item_at ws 3))
+    (cond (eqb tag 39) (PushL (at ws 0 28 2) (at ws 1 44 5) (place_at ws 0 6) (place_at ws 0 30) (place_at ws 1 0) (place_at ws 1 22) (at ws 2 0 31) (item_at ws 3))
+    (cond (eqb tag 40) (PushR (at ws 0 28 2) (at ws 1 44 5) (place_at ws 0 6) (place_at ws 0 30) (place_at ws 1 0) (place_at ws 1 22) (at ws 2 0 31) (item_at ws 3))
     (cond (eqb tag 41) (DeepL (place_at ws 0 6) (place_at ws 0 28) (at ws 1 0 31) (place_at ws 1 31) (at ws 1 53 5) (item_at ws 2))
     (cond (eqb tag 42) (DeepR (place_at ws 0 6) (place_at ws 0 28) (at ws 1 0 31) (place_at ws 1 31) (at ws 1 53 5) (item_at ws 2))
-    (cond (eqb tag 43) (Concat (place_at ws 0 6) (place_at ws 0 28) (place_at ws 1 0) (place_at ws 1 22) (at ws 1 44 5) (at ws 2 0 31) (item_at ws 3))
+    (cond (eqb tag 43) (Concat (at ws 1 44 5) (place_at ws 0 6) (place_at ws 0 28) (place_at ws 1 0) (place_at ws 1 22) (at ws 2 0 31) (item_at ws 3))
     Nil))))))))))))))))))))))))))))))
 
 -- the record that the words show

@@ -42,11 +42,11 @@ family_of p (Append _ _ _ origin off) = (origin.0, off)
 family_of p (BankRot _ _ _ origin off) = (origin.0, off)
 family_of p (RtRot _ _ _ _ origin off) = (origin.0, off)
 family_of p (LinkAll _ _ _ origin off) = (origin.0, off)
-family_of p (PushL _ _ _ _ origin off _ _) = (origin.0, off)
-family_of p (PushR _ _ _ _ origin off _ _) = (origin.0, off)
+family_of p (PushL _ off _ _ _ origin _ _) = (origin.0, off)
+family_of p (PushR _ off _ _ _ origin _ _) = (origin.0, off)
 family_of p (DeepL _ _ _ origin off _) = (origin.0, off)
 family_of p (DeepR _ _ _ origin off _) = (origin.0, off)
-family_of p (Concat _ _ _ origin off _ _) = (origin.0, off)
+family_of p (Concat off _ _ _ origin _ _) = (origin.0, off)
 family_of p _ = (p, 0)
 
 -- a unit is an origin and an index from 0
@@ -99,15 +99,15 @@ if_first off us = cond (eqb off 0) us []
 
 -- what the record at a place shows as discharged; what has no line shows nothing
 abbrev pub paid : Records → ℕ → Rec → List WorkUnit
-paid recs p (BankTop _ _ _ lenr rotated origin n tails) = cond rotated (units_below origin.0 (min (2 * n + 1) (1 + lenr + 2 * tails))) []
+paid recs p (BankTop rotated _ _ _ lenr origin n tails) = cond rotated (units_below origin.0 (min (2 * n + 1) (1 + lenr + 2 * tails))) []
 paid recs p (RtTop _ _ _ _ sched) = schedule_units (recs sched.0)
 paid recs p (HeapTop list _ owed) = take (length (list_units recs list.0) - owed) (list_units recs list.0)
 paid recs p (Append _ _ left origin off) = if_first off (units_below origin.0 left)
 paid recs p (Reverse _ left) = units_below p left
 paid recs p (LinkAll _ len _ origin off) = if_first off (units_below origin.0 (3 * len))
-paid recs p (PushL _ _ _ _ origin off size _) = if_first off (units_below origin.0 (bits size))
-paid recs p (PushR _ _ _ _ origin off size _) = if_first off (units_below origin.0 (bits size))
+paid recs p (PushL _ off _ _ _ origin size _) = if_first off (units_below origin.0 (bits size))
+paid recs p (PushR _ off _ _ _ origin size _) = if_first off (units_below origin.0 (bits size))
 paid recs p (DeepL _ _ size origin off _) = if_first off (units_below origin.0 (bits size))
 paid recs p (DeepR _ _ size origin off _) = if_first off (units_below origin.0 (bits size))
-paid recs p (Concat _ _ _ origin off size _) = if_first off (units_below origin.0 (bits size))
+paid recs p (Concat off _ _ _ origin size _) = if_first off (units_below origin.0 (bits size))
 paid recs p _ = []

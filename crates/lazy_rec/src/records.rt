@@ -20,7 +20,8 @@ pub enum Sort {
     Finger,
 }
 
-/// What a place shows once it is published.
+/// What a place shows once it is published. Short fields stand first, so that a record takes
+/// 32 bytes.
 #[derive(Clone, Copy, Debug, PartialEq, Eq)]
 pub enum Rec {
     Nil,
@@ -40,11 +41,11 @@ pub enum Rec {
         size: u32,
     },
     BankTop {
+        rotated: bool,
         front: Ref,
         lenf: u32,
         rear: Ref,
         lenr: u32,
-        rotated: bool,
         origin: Ref,
         n: u32,
         tails: u32,
@@ -155,22 +156,22 @@ pub enum Rec {
         off: u32,
     },
     PushL {
-        tree: Ref,
         count: u8,
+        off: u8,
+        tree: Ref,
         e1: Ref,
         e2: Ref,
         origin: Ref,
-        off: u8,
         size: u32,
         key: Item,
     },
     PushR {
-        tree: Ref,
         count: u8,
+        off: u8,
+        tree: Ref,
         e1: Ref,
         e2: Ref,
         origin: Ref,
-        off: u8,
         size: u32,
         key: Item,
     },
@@ -191,11 +192,11 @@ pub enum Rec {
         key: Item,
     },
     Concat {
+        off: u8,
         left: Ref,
         right: Ref,
         list: Ref,
         origin: Ref,
-        off: u8,
         size: u32,
         key: Item,
     },

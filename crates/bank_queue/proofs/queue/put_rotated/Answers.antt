@@ -29,7 +29,7 @@ filling g c = filling_put (filling_start _ _ c.requires.held) c.put-rotation.ens
 pub put-requires-clause-held : goal.put-requires-clause-held
 put-requires-clause-held g c = (filling g (goal.at.put-requires-clause-held g c).After-put-rotation).held
 
-top_fits : (g : _) (c : After-put-rotation g) → Fits (g.H.Heap.view c.put-rotation.new.self) c.put-rotation.new.run.next (BankTop c.put-rotation.result (2 * c.args.length + 1) (record { 0 = 1 }) 0 true c.next-origin.result c.args.length 0)
+top_fits : (g : _) (c : After-put-rotation g) → Fits (g.H.Heap.view c.put-rotation.new.self) c.put-rotation.new.run.next (BankTop true c.put-rotation.result (2 * c.args.length + 1) (record { 0 = 1 }) 0 c.next-origin.result c.args.length 0)
 top_fits g c =
     let f = filling g c in
     let r = c.put-rotation.ensures in
