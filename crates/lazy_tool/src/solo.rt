@@ -56,10 +56,17 @@ impl Outcome {
     }
 }
 
+// A script, and the bytes of its text.
+#[derive(Drop)]
+struct Loaded {
+    script: Script,
+    bytes: Vec<u8>,
+}
+
 // The script that a source holds, where all its events are built.
-fn load<S: Source>(alloc: Global, source: &mut S) -> Result<Script, Why>
-    ensures script { IfOk result (λ s. IsRead (S.left source.old) (S.left source.new) s.events) }
-    ensures built { IfOk result (λ s. AreBuilt s.events) }
+fn load<S: Source>(alloc: Global, source: &mut S) -> Result<Loaded, Why>
+    ensures script { IfOk result (λ l. IsRead (S.left source.old) (S.left source.new) l.script.events) }
+    ensures built { IfOk result (λ l. AreBuilt l.script.events) }
     ensures no_fault { OnOk result (S.faults source.new ≡ S.faults source.old) }
     ensures fault { IfErr result (λ why. Stops (S.left source.old) (S.left source.new) (S.faults source.old) (S.faults source.new) why) }
 {
@@ -75,7 +82,7 @@ fn load<S: Source>(alloc: Global, source: &mut S) -> Result<Script, Why>
         Err(ScriptFault::NoMemory) => return Err(Why::Memory),
     };
     match first_unbuilt(&script) {
-        None => Ok(script),
+        None => Ok(Loaded { script, bytes }),
         Some(event) => Err(Why::NotBuilt { event }),
     }
 }
@@ -111,15 +118,16 @@ fn nodes_for(alloc: Global, nodes: Option<u32>, script: &Script) -> Result<u32, 
     Ok(room.min(u64::from(MOST_NODES)) as u32)
 }
 
-fn run_script(alloc: Global, nodes: Option<u32>, script: &Script) -> Result<Ran, NoMemory>
-    requires built { AreBuilt script.now.events }
+// Runs a script. The report is written over the script's text.
+fn run_script(alloc: Global, nodes: Option<u32>, loaded: Loaded) -> Result<Ran, NoMemory>
+    requires built { AreBuilt loaded.script.events }
     requires small { IfSome nodes (λ n. n ≤ MOST_NODES) }
-    ensures { IfOk result (IsReported nodes script.now.events) }
+    ensures { IfOk result (IsReported nodes loaded.script.events) }
 {
-    let events = script.events();
-    let nodes = nodes_for(alloc, nodes, script)?;
-    let closed = solo_book(alloc, nodes, events)?;
-    let report = report(alloc, &closed)?;
+    let Loaded { script, bytes } = loaded;
+    let nodes = nodes_for(alloc, nodes, &script)?;
+    let closed = solo_book(alloc, nodes, script.events())?;
+    let report = report(&closed, bytes)?;
     Ok(Ran { closed, report })
 }
 
@@ -158,11 +166,11 @@ fn serve<S: Source, K: Sink>(
     ensures answers { AnswersPlain nodes (ends (S.left source.old) (S.faults source.old) (K.holds sink.old) (K.faults sink.old)) (ends (S.left source.new) (S.faults source.new) (K.holds sink.new) (K.faults sink.new)) result.why result.closed }
     ensures status { result.status ≡ status_of result.why result.closed }
 {
-    let script = match load(alloc, source) {
-        Ok(script) => script,
+    let loaded = match load(alloc, source) {
+        Ok(loaded) => loaded,
         Err(why) => return Outcome::without_book(why),
     };
-    let Ok(Ran { closed, report }) = run_script(alloc, nodes, &script) else {
+    let Ok(Ran { closed, report }) = run_script(alloc, nodes, loaded) else {
         return Outcome::without_book(Why::Memory);
     };
     match write_whole(sink, report.text.as_slice()) {

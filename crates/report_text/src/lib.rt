@@ -11,7 +11,7 @@ mod text;
 
 use counter::Counter;
 use lazy_rec::{NoMemory, Reply};
-use std::alloc::{AllocError, Global};
+use std::alloc::AllocError;
 use text::{LINE_ROOM, Text};
 use version_book::{Closed, Ended, Totals};
 
@@ -133,11 +133,11 @@ fn put_totals(text: &mut Text, totals: Totals)
 }
 
 #[inline(never)]
-fn lines(alloc: Global, closed: &Closed) -> Result<Printed, AllocError>
+fn lines(closed: &Closed, bytes: Vec<u8>) -> Result<Printed, AllocError>
     ensures text { IfOk result (λ r. r.text.items ≡ report_of closed.now) }
     ensures given_up { IfOk result (λ r. r.has_given_up ≡ some_given_up closed.now (length closed.now.rows)) }
 {
-    let mut text = Text::new(alloc);
+    let mut text = Text::over(bytes);
     let mut counter = Counter::new();
     let mut has_given_up = false;
     for i in 0..closed.rows() {
@@ -155,10 +155,11 @@ fn lines(alloc: Global, closed: &Closed) -> Result<Printed, AllocError>
 
 /// The report of a closed book: a line for each row in order of name, which is the name, a space, and `ok`, the decimal
 /// number, `empty`, `toolong`, `full D W` with the drawn and the wanted number, `memory` or `nobase`; then the line
-/// `totals forced F steps S givenup G dues D`.
-pub fn report(alloc: Global, closed: &Closed) -> Result<Printed, NoMemory>
+/// `totals forced F steps S givenup G dues D`. It is written over the bytes, which hold nothing that matters any more, and takes
+/// memory only where it is longer: a fresh page costs more than the lines that fill it.
+pub fn report(closed: &Closed, bytes: Vec<u8>) -> Result<Printed, NoMemory>
     ensures text { IfOk result (λ r. r.text.items ≡ report_of closed.now) }
     ensures given_up { IfOk result (λ r. r.has_given_up ≡ some_given_up closed.now (length closed.now.rows)) }
 {
-    lines(alloc, closed).map_err(|_| NoMemory)
+    lines(closed, bytes).map_err(|_| NoMemory)
 }

@@ -2,7 +2,7 @@
 ghost use Rattle.std.specs.Prelude.{◌≡◌, ◌++◌, ◌+◌, ◌≤◌, [], length, take, decimal, OnOk};
 
 use itoa::write_digits;
-use std::alloc::{AllocError, Global};
+use std::alloc::AllocError;
 use std::marker::Model;
 
 /// How much room a line needs, with what is written behind its end.
@@ -33,14 +33,11 @@ impl Model for Text {
 }
 
 impl Text {
-    /// The empty text.
-    pub fn new(alloc: Global) -> Text
+    /// The empty text, with some bytes as its room. What they hold is written over.
+    pub fn over(bytes: Vec<u8>) -> Text
         ensures { result.text ≡ [] }
     {
-        Text {
-            bytes: Vec::new(alloc),
-            len: 0,
-        }
+        Text { bytes, len: 0 }
     }
 
     /// Makes room for a line.
