@@ -6,6 +6,7 @@ use Rattle.std.proofs.lemmas.List.{length-map, map-append, map-set, get_or-map, 
 use Rattle.lazy_rec.specs.declared.states.SuspState.{SuspState}
 use Rattle.heap_store.specs.declared.nodes.Node.{Node}
 use Rattle.heap_store.specs.declared.slots.Slot.{Slot}
+use Rattle.heap_store.specs.declared.slots.SlotState.{SlotState}
 use Rattle.heap_store.specs.declared.slots.TheConstants.{FREE}
 use Rattle.heap_store.specs.Plain.{filled_up}
 use Rattle.heap_store.specs.Slots.{state_in, node_in, shown_in, at_place}
@@ -61,17 +62,18 @@ slot_pushed slots drawn s l =
 
 -- a published place gets another state
 some_same : (n : Node) (s : Slot) → node_in s ≡ Some n → n.rec ≡ s.rec
-some_same n s h = go (state_in s.state) h
+some_same n s h = go (state_in s) h
   where
     go : (t : Option SuspState) → option_map (λ (x : SuspState). record { rec = s.rec; state = x }) t ≡ Some n → n.rec ≡ s.rec
     go None h = cc
     go (Some x) h = let same : record { rec = s.rec; state = x } ≡ n = cc in sym (ap (λ (m : Node). m.rec) same)
 
-pub state_set : (slots : List Slot) (drawn p : ℕ) (s t : Slot) (x : SuspState) (n : Node) → p < length slots → s ≡ slice_index_or slots p s → at_place (shown_in slots drawn) p ≡ Some n → t.rec ≡ s.rec → state_in t.state ≡ Some x → shown_in (slice_set slots p t) drawn ≡ slice_set (shown_in slots drawn) p (Some (record n { state = x }))
-state_set slots drawn p s t x n l is here rec state =
+pub state_set : (slots : List Slot) (drawn p : ℕ) (s : Slot) (state : SlotState) (x : SuspState) (n : Node) → p < length slots → s ≡ slice_index_or slots p s → at_place (shown_in slots drawn) p ≡ Some n → state_in (record { rec = n.rec; state = state }) ≡ Some x → shown_in (slice_set slots p (record s { state = state })) drawn ≡ slice_set (shown_in slots drawn) p (Some (record n { state = x }))
+state_set slots drawn p s state x n l is here told =
     let old : n.rec ≡ s.rec = some_same n s (sym (shown_at slots drawn p s l is) ∙ here) in
-    let new : node_in t ≡ Some (record n { state = x }) = ap (option_map (λ (y : SuspState). record { rec = t.rec; state = y })) state ∙ ap (λ r. Some (record { rec = r; state = x })) (rec ∙ sym old) in
-    slot_set slots drawn p t l ∙ ap (λ o. slice_set (shown_in slots drawn) p o) new
+    let same : node_in (record s { state = state }) ≡ node_in (record { rec = n.rec; state = state }) = ap (λ r. node_in (record { rec = r; state = state })) (sym old) in
+    let new : node_in (record s { state = state }) ≡ Some (record n { state = x }) = same ∙ ap (option_map (λ (y : SuspState). record { rec = n.rec; state = y })) told in
+    slot_set slots drawn p (record s { state = state }) l ∙ ap (λ o. slice_set (shown_in slots drawn) p o) new
 
 -- a slot is written behind free ones
 pub slot_put : (slots : List Slot) (drawn p : ℕ) (s : Slot) → length slots ≤ drawn → p < drawn → shown_in (slice_set (slots ++ replicate (p + 1 - length slots) FREE) p s) drawn ≡ slice_set (shown_in slots drawn) p (node_in s)

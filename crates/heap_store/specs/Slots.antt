@@ -1,5 +1,7 @@
 -- What the slots of drawn places show.
-use Rattle.std.specs.Prelude.{ℕ, List, Option, Some, None, map, option_map, slice_index_or}
+use Rattle.std.specs.Prelude.{◌≡◌, ℕ, min, ⊤, List, Option, Some, None, map, option_map, slice_index_or}
+use Rattle.lazy_rec.specs.declared.records.Rec.{Rec}
+use Rattle.lazy_rec.specs.Units.{steps}
 use Rattle.lazy_rec.specs.declared.states.SuspState.{SuspState}
 use Rattle.lazy_rec.specs.declared.states.SuspState.TheVariants as states
 use Rattle.heap_store.specs.declared.nodes.Node.{Node}
@@ -13,16 +15,28 @@ pub record PlacesView : Type 0 where
   pub shown : List (Option Node)
   pub room : ℕ
 
--- the state that a slot keeps
-abbrev pub state_in : SlotState → Option SuspState
-state_in kept.Free = None
-state_in (kept.Unforced given_up) = Some (states.Unforced given_up)
-state_in (kept.Claimed given_up) = Some (states.Claimed given_up)
-state_in (kept.Done given_up place steps) = Some (states.Done place steps given_up)
+-- the steps of a record, as a state has them: as many as 32 bits hold. No record that a store shows takes more
+abbrev pub steps_told : Rec → ℕ
+steps_told rec = min (steps rec) 4294967295
+
+-- what is done took the steps that the record tells
+abbrev pub HasStepsOf : Rec → SuspState → Type 0
+HasStepsOf rec (states.Done _ taken _) = taken ≡ steps_told rec
+HasStepsOf _ _ = ⊤
+
+-- the state that a slot shows
+abbrev pub state_in : Slot → Option SuspState
+state_in slot = go slot.state
+  where
+    go : SlotState → Option SuspState
+    go kept.Free = None
+    go (kept.Unforced given_up) = Some (states.Unforced given_up)
+    go (kept.Claimed given_up) = Some (states.Claimed given_up)
+    go (kept.Done given_up place) = Some (states.Done place (steps_told slot.rec) given_up)
 
 -- what a slot shows
 abbrev pub node_in : Slot → Option Node
-node_in slot = option_map (λ (s : SuspState). record { rec = slot.rec; state = s }) (state_in slot.state)
+node_in slot = option_map (λ (s : SuspState). record { rec = slot.rec; state = s }) (state_in slot)
 
 -- what so many drawn places show: those behind the last slot show nothing
 abbrev pub shown_in : List Slot → ℕ → List (Option Node)

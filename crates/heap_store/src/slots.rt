@@ -2,28 +2,22 @@
 ghost use Rattle.std.specs.Prelude.{◌≡◌, ◌+◌, ◌-◌, ◌<◌, ◌≤◌, ◌++◌, [], true, replicate, length, map, is_some, Some, None, IfOk, option_map, slice_set, slice_index_or, vec_len, vec_capacity};
 ghost use Rattle.heap_store.specs.declared.nodes.Node.{Node};
 ghost use Rattle.heap_store.specs.Plain.{fresh_node};
-ghost use Rattle.heap_store.specs.Slots.{state_in, node_in, at_place};
+ghost use Rattle.lazy_rec.specs.declared.records.Rec.{Rec};
+ghost use Rattle.heap_store.specs.Slots.{HasStepsOf, state_in, node_in, at_place};
 
 use crate::nodes::Node;
 use lazy_rec::{Rec, Ref, SuspState};
 use std::alloc::{AllocError, Global};
 use std::marker::Model;
 
-/// The state of a place, or that nothing is published there. Short fields come first, so that a slot has 48 bytes.
+/// The state of a place, or that nothing is published there. The steps of what is done aren't kept, as its record tells them: so a
+/// slot has 40 bytes.
 #[derive(Clone, Copy)]
 enum SlotState {
     Free,
-    Unforced {
-        given_up: u16,
-    },
-    Claimed {
-        given_up: u16,
-    },
-    Done {
-        given_up: u16,
-        place: Ref,
-        steps: u32,
-    },
+    Unforced { given_up: u16 },
+    Claimed { given_up: u16 },
+    Done { given_up: u16, place: Ref },
 }
 
 /// What is kept of a place: its record and its state. The record of a free place means nothing.
@@ -41,42 +35,34 @@ const FREE: Slot = Slot {
 
 /// The state that a slot shows, if something is published there.
 #[inline(always)]
-fn state_in(state: SlotState) -> Option<SuspState>
-    ensures { result ≡ state_in state }
+fn state_in(slot: &Slot) -> Option<SuspState>
+    ensures { result ≡ state_in slot.now }
 {
-    match state {
+    match slot.state {
         SlotState::Free => None,
         SlotState::Unforced { given_up } => Some(SuspState::Unforced { given_up }),
         SlotState::Claimed { given_up } => Some(SuspState::Claimed { given_up }),
-        SlotState::Done {
-            given_up,
+        SlotState::Done { given_up, place } => Some(SuspState::Done {
             place,
-            steps,
-        } => Some(SuspState::Done {
-            place,
-            steps,
+            steps: slot.rec.steps().min(u64::from(u32::MAX)) as u32,
             given_up,
         }),
     }
 }
 
-/// The state as a slot keeps it.
+/// The state as a slot keeps it beside a record with its steps.
 #[inline(always)]
 fn kept(state: SuspState) -> SlotState
-    ensures { state_in result ≡ Some state }
+    ensures { (rec : Rec) → HasStepsOf rec state → state_in (record { rec = rec; state = result }) ≡ Some state }
 {
     match state {
         SuspState::Unforced { given_up } => SlotState::Unforced { given_up },
         SuspState::Claimed { given_up } => SlotState::Claimed { given_up },
         SuspState::Done {
             place,
-            steps,
             given_up,
-        } => SlotState::Done {
-            given_up,
-            place,
-            steps,
-        },
+            ..
+        } => SlotState::Done { given_up, place },
     }
 }
 
@@ -155,7 +141,7 @@ impl DrawnPlaces {
             return None;
         }
         let slot = self.slots[place.0 as usize];
-        match state_in(slot.state) {
+        match state_in(&slot) {
             Some(state) => Some(Node {
                 rec: slot.rec,
                 state,
@@ -179,7 +165,7 @@ impl DrawnPlaces {
         requires { is_some (at_place self.now.shown place.0) ≡ true }
         ensures { option_map (λ (n : Node). n.state) (at_place self.now.shown place.0) ≡ Some result }
     {
-        match state_in(self.slots[place.0 as usize].state) {
+        match state_in(&self.slots[place.0 as usize]) {
             Some(state) => state,
             None => unreachable!(),
         }
@@ -209,10 +195,11 @@ impl DrawnPlaces {
         }
     }
 
-    /// Gives a published place another state.
+    /// Gives a published place another state. What is done took the steps that its record tells.
     #[inline(always)]
     pub fn set_state(&mut self, place: Ref, state: SuspState)
-        requires { is_some (at_place self.old.shown place.0) ≡ true }
+        requires there { is_some (at_place self.old.shown place.0) ≡ true }
+        requires steps { (n : Node) → at_place self.old.shown place.0 ≡ Some n → HasStepsOf n.rec state }
         ensures { (n : Node) → at_place self.old.shown place.0 ≡ Some n → self.new ≡ record self.old { shown = slice_set self.old.shown place.0 (Some (record n { state = state })) } }
     {
         self.slots[place.0 as usize].state = kept(state);

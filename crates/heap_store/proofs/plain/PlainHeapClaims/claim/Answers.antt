@@ -49,8 +49,8 @@ now_plain c =
 pub state-requires : goal.state-requires
 state-requires c = let h = c.args.self.now in shown_read h.capacity h.row_capacity h.nodes.shown h.rows.items c.args.s.0 is_pending c.requires.pending
 
-pub set_state-requires : goal.set_state-requires
-set_state-requires c = let h = c.args.self.now in shown_read h.capacity h.row_capacity h.nodes.shown h.rows.items c.args.s.0 is_pending c.requires.pending
+pub set_state-requires-clause-there : goal.set_state-requires-clause-there
+set_state-requires-clause-there c = let h = c.args.self.now in shown_read h.capacity h.row_capacity h.nodes.shown h.rows.items c.args.s.0 is_pending c.requires.pending
 
 pub add-requires : goal.add-requires
 add-requires c =

@@ -1,4 +1,9 @@
-use Rattle.std.proofs.Common.{arith, ◌≡◌, Option, Some, ap, ◌∙◌, reverse}
+use Rattle.std.proofs.Common.{arith, ◌≡◌, Option, Some, sym, ap, ◌∙◌, reverse}
+use Rattle.std.specs.Prelude.{option_map}
+use Rattle.std.proofs.Math.Nat.{min-eq_left}
+use Rattle.lazy_rec.specs.Units.{steps}
+use Rattle.heap_store.specs.declared.nodes.Node.{Node}
+use Rattle.heap_store.proofs.ShowLaws.{one_value}
 use Rattle.lazy_rec.specs.declared.records.Rec.{Rec}
 use Rattle.lazy_rec.specs.declared.states.SuspState.{SuspState}
 use Rattle.lazy_rec.specs.declared.states.SuspState.TheVariants.{Claimed, Done}
@@ -29,8 +34,15 @@ state-requires c = let h = c.args.self.now in held_shown h.capacity h.row_capaci
 pub unreachable-requires : goal.unreachable-requires
 unreachable-requires c = let h = c.args.self.now in claimed_is c.state.result (held_claimed h.capacity h.row_capacity h.nodes.shown (reverse h.claims.items) h.rows.items h.plain c.args.s.0 c.requires.held c.state.result c.state.ensures) c.in_default.not-Claimed
 
-pub set_state-requires : goal.set_state-requires
-set_state-requires c = let h = c.args.self.now in held_shown h.capacity h.row_capacity h.nodes.shown (reverse h.claims.items) h.rows.items h.plain c.args.s.0 c.requires.held
+pub set_state-requires-clause-there : goal.set_state-requires-clause-there
+set_state-requires-clause-there c = let h = c.args.self.now in held_shown h.capacity h.row_capacity h.nodes.shown (reverse h.claims.items) h.rows.items h.plain c.args.s.0 c.requires.held
+
+pub set_state-requires-clause-steps : goal.set_state-requires-clause-steps
+set_state-requires-clause-steps c n here =
+    let i = (goal.at.set_state-requires-clause-steps c).In-Claimed in
+    let same : n.rec ≡ (node i).0 = ap (λ (m : Node). m.rec) (one_value _ _ (sym here ∙ (node i).1)) in
+    let taken : c.args.steps ≡ steps (node i).0 = (c.requires.value (node i).0 (ap (option_map (λ (m : Node). m.rec)) (node i).2)).steps in
+    rw (same, sym taken) (sym (min-eq_left (omega (arith, c.requires.small))))
 
 pub invariant_of-self-clause-node_room : goal.invariant_of-self-clause-node_room
 invariant_of-self-clause-node_room c =

@@ -29,8 +29,8 @@ state-requires c = let h = c.args.self.now in held_shown h.capacity h.row_capaci
 pub unreachable-requires : goal.unreachable-requires
 unreachable-requires c = let h = c.args.self.now in claimed_is c.state.result (held_claimed h.capacity h.row_capacity h.nodes.shown (reverse h.claims.items) h.rows.items h.plain c.args.s.0 (unbuilt_held (reverse c.args.self.now.claims.items) c.args.s.0 c.requires.unbuilt) c.state.result c.state.ensures) c.in_default.not-Claimed
 
-pub set_state-requires : goal.set_state-requires
-set_state-requires c = let h = c.args.self.now in held_shown h.capacity h.row_capacity h.nodes.shown (reverse h.claims.items) h.rows.items h.plain c.args.s.0 (unbuilt_held (reverse c.args.self.now.claims.items) c.args.s.0 c.requires.unbuilt)
+pub set_state-requires-clause-there : goal.set_state-requires-clause-there
+set_state-requires-clause-there c = let h = c.args.self.now in held_shown h.capacity h.row_capacity h.nodes.shown (reverse h.claims.items) h.rows.items h.plain c.args.s.0 (unbuilt_held (reverse c.args.self.now.claims.items) c.args.s.0 c.requires.unbuilt)
 
 pub invariant_of-self-clause-node_room : goal.invariant_of-self-clause-node_room
 invariant_of-self-clause-node_room c =
