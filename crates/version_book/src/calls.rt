@@ -12,7 +12,7 @@ ghost use Rattle.version_book.specs.Calls.{HasDrawn, MayExtend, Called, Ended, I
 
 use crate::answers::{Entry, Look, Refuse, Tally, Ticket};
 use crate::lookups::look;
-use crate::one_event::{run, start_new};
+use crate::one_event::{run, run_as, start_new};
 use crate::pass::BookPass;
 use crate::row_steps;
 use heap_store::{EventJob, Heap, Rows, Stage, Version};
@@ -107,6 +107,32 @@ impl<R: Rows> BookPass<R> {
         let Ticket { name, caller: _ } = ticket;
         let job = first_stage(op, base, other, arg);
         run(&mut self.heap, &mut self.stack, self.caller, name, &job)
+    }
+
+    /// The same for an event that is at hand, on the versions that it names.
+    pub(crate) fn call_as(
+        &mut self,
+        ticket: Ticket,
+        event: Event,
+        base: Version,
+        other: Version,
+    ) -> Result<Entry, Refuse>
+        requires event { event ≡ event_of_call event.op base other event.arg }
+        requires may { MayExtend self.old ticket.name event.op base other event.arg }
+        requires alone { self.old.view.about.alone ≡ true }
+        ensures ended { Ended self.old self.new ticket.name event result }
+        ensures lawful { IsLawfulView self.new.view }
+    {
+        let Ticket { name, caller: _ } = ticket;
+        let job = first_stage(event.op, base, other, event.arg);
+        run_as(
+            &mut self.heap,
+            &mut self.stack,
+            self.caller,
+            name,
+            &event,
+            &job,
+        )
     }
 
     /// Ends the row of an event that is never begun, since one of its bases is given up.

@@ -42,7 +42,36 @@ fn event_of_call(job: &EventJob) -> Event
     }
 }
 
-/// Begins and ends the event of a job, in the way in which it is forced.
+/// Begins and ends an event, which is that of a job, in the way in which it is forced.
+pub(crate) fn run_as<R: Rows, F: Forces>(
+    heap: &mut R,
+    forces: &mut F,
+    caller: u32,
+    name: u32,
+    event: &Event,
+    job: &EventJob,
+) -> Result<Entry, Refuse>
+    requires event { event.now ≡ event_of_call job.now.op job.now.base job.now.other job.now.arg }
+    requires small { job.now.arg < 2 ^ 64 }
+    requires idle { IsIdle (R.view heap.old) }
+    requires caller { IsCaller (R.view heap.old) caller }
+    requires may { MayExtend (pass_of (R.view heap.old) caller) name job.now.op job.now.base job.now.other job.now.arg }
+    requires start { job.now.stage ≡ Start }
+    requires serves { may_force job.now.base.kind job.now.op ≡ true → F.serves forces.old (R.view heap.old).about ≡ true }
+    ensures idle { IsIdle (R.view heap.new) }
+    ensures caller { IsCaller (R.view heap.new) caller }
+    ensures ended { Ended (pass_of (R.view heap.old) caller) (pass_of (R.view heap.new) caller) name (event_of_call job.now.op job.now.base job.now.other job.now.arg) result }
+    ensures known { IfOk result (λ entry. IsKnown (pass_of (R.view heap.new) caller) entry) }
+    ensures outcome { IfOk result (λ entry. IsOutcome (pass_of (R.view heap.old) caller) (pass_of (R.view heap.new) caller) job.now.op job.now.base job.now.other job.now.arg entry) }
+    ensures memory { IfErr result (λ refuse. refuse ≡ Refuse.NoMemory → may_force job.now.base.kind job.now.op ≡ true) }
+    ensures same { (about : About) → F.serves forces.new about ≡ F.serves forces.old about }
+{
+    begin(heap, caller, name, event);
+    let made = work(heap, forces, job);
+    finish(heap, name, job.base.kind, made)
+}
+
+/// Begins and ends the event of a job.
 pub(crate) fn run<R: Rows, F: Forces>(
     heap: &mut R,
     forces: &mut F,
@@ -64,9 +93,7 @@ pub(crate) fn run<R: Rows, F: Forces>(
     ensures same { (about : About) → F.serves forces.new about ≡ F.serves forces.old about }
 {
     let event = event_of_call(job);
-    begin(heap, caller, name, &event);
-    let made = work(heap, forces, job);
-    finish(heap, name, job.base.kind, made)
+    run_as(heap, forces, caller, name, &event, job)
 }
 
 /// Begins and ends `new`.

@@ -73,7 +73,7 @@ fn run_event<R: Rows>(pass: &mut BookPass<R>, event: &Event) -> u64
     }
     match bases(pass, event) {
         Some((base, other)) => {
-            let _ = pass.call(ticket, event.op, base, other, event.arg);
+            let _ = pass.call_as(ticket, *event, base, other);
             charge(event.op, &base, &other)
         }
         None => {

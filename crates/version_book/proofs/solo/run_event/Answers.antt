@@ -1,4 +1,4 @@
-use Rattle.std.proofs.Common.{sym, ◌∙◌, subst, arith}
+use Rattle.std.proofs.Common.{refl, sym, ◌∙◌, subst, arith}
 use Rattle.dues.proofs.RoomLaws.{due_fits}
 use Rattle.version_book.specs.Calls.{Ended}
 use Rattle.version_book.specs.Solo.{Ran}
@@ -47,15 +47,17 @@ bases-requires g c =
       uses = uses_ended p q c.in-Ok.ticket.name e c.requires.solo c.requires.next t (not_new e.op c.in_default-op.not-New);
     }
 
-pub call-requires : goal.call-requires
-call-requires g c =
+pub call_as-requires : goal.call_as-requires
+call_as-requires g c =
     let p = c.args.pass.now in
     let q = c.draw.new.self in
     let e = c.args.event.now in
     let t : HasTicket p q c.in-Ok.ticket.name = ticket c.requires.solo c.in-Ok.ensures.ok c.draw.ensures.same in
+    let based = not_new e.op c.in_default-op.not-New in
     let same = c.bases.ensures.same in
     record {
-      may = rw same (may_extend p q c.in-Ok.ticket.name e c.requires.solo c.requires.next t c.draw.ensures.lawful.legal (not_new e.op c.in_default-op.not-New) c.in-Some.base c.in-Some.other c.in-Some.ensures.bases);
+      event = sym (event_same p q c.in-Ok.ticket.name e c.requires.solo c.requires.next t c.draw.ensures.lawful.legal based c.in-Some.base c.in-Some.other c.in-Some.ensures.bases);
+      may = rw same (may_extend p q c.in-Ok.ticket.name e c.requires.solo c.requires.next t c.draw.ensures.lawful.legal based c.in-Some.base c.in-Some.other c.in-Some.ensures.bases);
       alone = rw same (solo_still p q c.in-Ok.ticket.name e c.requires.solo c.requires.next t).alone;
     }
 
@@ -76,17 +78,15 @@ pub returns-in-Some : goal.returns-in-Some
 returns-in-Some g c =
     let p = c.args.pass.now in
     let q = c.draw.new.self in
-    let r = c.call.new.self in
+    let r = c.call_as.new.self in
     let e = c.args.event.now in
     let t : HasTicket p q c.in-Ok.ticket.name = ticket c.requires.solo c.in-Ok.ensures.ok c.draw.ensures.same in
-    let based = not_new e.op c.in_default-op.not-New in
-    let same = event_same p q c.in-Ok.ticket.name e c.requires.solo c.requires.next t c.draw.ensures.lawful.legal based c.in-Some.base c.in-Some.other c.in-Some.ensures.bases in
-    let ended = rw c.bases.ensures.same at c.call.ensures.ended in
-    let ran : Ran p r e = ran_call p q r c.in-Ok.ticket.name e _ c.call.result c.requires.solo c.requires.next t same ended in
+    let ended = rw c.bases.ensures.same at c.call_as.ensures.ended in
+    let ran : Ran p r e = ran_call p q r c.in-Ok.ticket.name e _ c.call_as.result c.requires.solo c.requires.next t refl ended in
     record {
       ran = ran;
-      lawful = c.call.ensures.lawful;
-      charged = c.charge.ensures.value ∙ charged_call q r c.in-Ok.ticket.name e c.call.ensures.lawful.legal (ran.named ∙ sym t.next) c.call.result (subst (λ x. Ended q r c.in-Ok.ticket.name x c.call.result) same ended) c.in-Some.base c.in-Some.other based c.in-Some.ensures.bases;
+      lawful = c.call_as.ensures.lawful;
+      charged = c.charge.ensures.value ∙ charged_call q r c.in-Ok.ticket.name e c.call_as.ensures.lawful.legal (ran.named ∙ sym t.next) c.call_as.result ended c.in-Some.base c.in-Some.other (not_new e.op c.in_default-op.not-New) c.in-Some.ensures.bases;
       small = c.charge.ensures.small;
     }
 

@@ -14,18 +14,18 @@ use Rattle.version_book.proofs.Begins.{begun_working}
 use Rattle.version_book.proofs.EventJobs.{job, may_begin, job_begun, means_begun, direct_begun}
 use Rattle.version_book.proofs.Called.{CameOut, came_grows, drawn_name, may_end, last_grows, ended_here, called_idle, called_caller, called, ended_so}
 use Rattle.version_book.proofs.Entries.{name_low, known_made, work_came, work_answer, outcome_made, at_first}
-use Rattle.version_book.proofs.one_event.run.Goals as goal
-use Rattle.version_book.proofs.one_event.run.Goals.{After-begin, After-work-made, After-finish}
+use Rattle.version_book.proofs.one_event.run_as.Goals as goal
+use Rattle.version_book.proofs.one_event.run_as.Goals.{After-begin, After-work-made, After-finish}
 
 begun : (g : _) (c : After-begin g) → Begun (g.R.Heap.view c.args.heap.now) (g.R.Heap.view c.begin.new.heap) c.args.caller c.args.name (event_of_call c.args.job.now.op c.args.job.now.base c.args.job.now.other c.args.job.now.arg)
-begun g c = subst (λ (e : Event). Begun (g.R.Heap.view c.args.heap.now) (g.R.Heap.view c.begin.new.heap) c.args.caller c.args.name e) c.event_of_call-event.ensures.is c.begin.ensures
+begun g c = subst (λ (e : Event). Begun (g.R.Heap.view c.args.heap.now) (g.R.Heap.view c.begin.new.heap) c.args.caller c.args.name e) c.requires.event c.begin.ensures
 
 pub begin-requires-clause-event : goal.begin-requires-clause-event
 begin-requires-clause-event g c =
     let j = c.args.job.now in
     let v0 = g.R.Heap.view c.args.heap.now in
-    subst (λ (e : Event). MayBegin v0 c.args.name e) (sym c.event_of_call-event.ensures.is)
-    (may_begin (pass_of v0 c.args.caller) c.args.name j.op j.base j.other j.arg c.requires.may (g.met.R.Heap.lawful c.args.heap.now).legal (lt-ltb j.arg _ c.event_of_call-event.ensures.small))
+    subst (λ (e : Event). MayBegin v0 c.args.name e) (sym c.requires.event)
+    (may_begin (pass_of v0 c.args.caller) c.args.name j.op j.base j.other j.arg c.requires.may (g.met.R.Heap.lawful c.args.heap.now).legal (lt-ltb j.arg _ c.requires.small))
 
 pub work-made-requires-clause-job : goal.work-made-requires-clause-job
 work-made-requires-clause-job g c =
@@ -54,7 +54,7 @@ came g c =
     work_came (pass_of (g.R.Heap.view c.args.heap.now) c.args.caller) c.args.name j.op j.base j.other j.arg c.requires.may (g.met.R.Heap.lawful c.args.heap.now) (g.R.Heap.view c.begin.new.heap) (g.R.Heap.view c.work-made.new.heap) c.work-made.result (worked g c) (stopped g c)
 
 begun_after : (g : _) (c : After-work-made g) → Begun (g.R.Heap.view c.args.heap.now) (g.R.Heap.view c.begin.new.heap) c.args.caller c.args.name (event_of_call c.args.job.now.op c.args.job.now.base c.args.job.now.other c.args.job.now.arg)
-begun_after g c = subst (λ (e : Event). Begun (g.R.Heap.view c.args.heap.now) (g.R.Heap.view c.begin.new.heap) c.args.caller c.args.name e) c.event_of_call-event.ensures.is c.begin.ensures
+begun_after g c = subst (λ (e : Event). Begun (g.R.Heap.view c.args.heap.now) (g.R.Heap.view c.begin.new.heap) c.args.caller c.args.name e) c.requires.event c.begin.ensures
 
 grown : (g : _) (c : After-work-made g) → Grows (g.R.Heap.view c.args.heap.now).seen (g.R.Heap.view c.work-made.new.heap).seen
 grown g c = grows_trans (begun_after g c).on.grows (came_grows (g.R.Heap.view c.begin.new.heap) (g.R.Heap.view c.work-made.new.heap) _ c.work-made.result (came g c))
