@@ -40,6 +40,17 @@ fn after_word<'a>(bytes: &'a [u8], word: &[u8; 4]) -> Option<&'a [u8]>
     }
 }
 
+// What follows `size` and a space at the beginning. It is told from a queue's words byte by byte, so that these are told alone.
+#[inline(always)]
+fn after_size(bytes: &[u8]) -> Option<&[u8]>
+    ensures { IfSome result (λ r. bytes.entry.now ≡ codes "size" ++ 32 ∷ r.now) }
+{
+    match bytes {
+        [b's', b'i', b'z', b'e', b' ', rest @ ..] => Some(rest),
+        _ => None,
+    }
+}
+
 // An operation with an argument, whose word and a space begin the bytes, and what follows them. `split`, which form 1 lacks, isn't
 // looked for.
 #[inline(always)]
@@ -208,7 +219,8 @@ fn other_line<'a>(before: &Script, op: Op, bytes: &'a [u8]) -> Option<(Event, &'
     Some((event, after))
 }
 
-// The event of a line of a queue's words, of which each has a way of its own, and the bytes after the line.
+// The event of a line of a queue's words, of which each has a way of its own, and the bytes after the line. `size`, which every
+// kind has, is one of the others too.
 #[inline(always)]
 fn queue_event<'a>(before: &Script, bytes: &'a [u8]) -> Option<(Event, &'a [u8])>
     requires { length before.now.events < MOST_EVENTS }
@@ -223,7 +235,7 @@ fn queue_event<'a>(before: &Script, bytes: &'a [u8]) -> Option<(Event, &'a [u8])
     if let Some(rest) = after_word(bytes, b"tail") {
         return base_line(before, Op::Tail, rest);
     }
-    None
+    base_line(before, Op::Size, after_size(bytes)?)
 }
 
 // The event of a line of another word, and the bytes after the line.
