@@ -101,18 +101,6 @@ impl<T: Drop> From<AllocFailed<T>> for NoMemory {
     }
 }
 
-/// The kinds in the order of their numbers, from 0.
-const KINDS: [Kind; 8] = [
-    Kind::Stream,
-    Kind::Bankq,
-    Kind::Rtq,
-    Kind::Heap,
-    Kind::Seq,
-    Kind::Prio,
-    Kind::Ord,
-    Kind::Cat,
-];
-
 /// The operations but for `new`, in the order of their numbers, from 1.
 const OPS: [Op; 27] = [
     Op::Size,
@@ -167,7 +155,19 @@ impl Kind {
     pub fn of_number(number: u32) -> Option<Kind>
         ensures { result ≡ kind_of_number number }
     {
-        element(&KINDS, number as usize)
+        if number >= 8 {
+            return None;
+        }
+        Some(match number {
+            0 => Kind::Stream,
+            1 => Kind::Bankq,
+            2 => Kind::Rtq,
+            3 => Kind::Heap,
+            4 => Kind::Seq,
+            5 => Kind::Prio,
+            6 => Kind::Ord,
+            _ => Kind::Cat,
+        })
     }
 
     /// Whether the kind has the operation.

@@ -41,13 +41,13 @@ fn op_number(op: Op) -> u64
     u64::from(op.number())
 }
 
-/// The kind with a number.
+/// The kind with a number, which is below 8. The remainder is the number itself, and costs less than a test.
 #[inline(always)]
 fn kind_of(number: u64) -> Kind
     requires { is_some (kind_of_number number) ≡ true }
     ensures { kind_of_number number ≡ Some result }
 {
-    match Kind::of_number(number as u32) {
+    match Kind::of_number((number % 8) as u32) {
         Some(kind) => kind,
         None => unreachable!(),
     }
