@@ -224,10 +224,10 @@ impl Heap for PlainHeap {
 
     #[inline(always)]
     fn reserve(&mut self, k: u32) -> Result<Run, Full> {
-        let drawn = self.nodes.drawn() - 5;
-        if k > self.capacity - drawn {
+        let drawn = self.nodes.drawn();
+        if k > self.nodes.room() - drawn {
             let full = Full {
-                drawn: drawn as u64,
+                drawn: (drawn - 5) as u64,
                 wanted: k,
             };
             self.refused = self.refused.saturating_add(1);
@@ -235,9 +235,8 @@ impl Heap for PlainHeap {
             note_refusal(&mut self.open_rows);
             return Err(full);
         }
-        let first = drawn + 5;
         self.nodes.draw(k);
-        Ok(Run::new(first, first + k))
+        Ok(Run::new(drawn, drawn + k))
     }
 
     #[inline(always)]

@@ -132,6 +132,14 @@ impl DrawnPlaces {
         self.drawn
     }
 
+    /// How many places there is room for.
+    #[inline(always)]
+    pub fn room(&self) -> u32
+        ensures { result ≡ self.now.room }
+    {
+        self.room
+    }
+
     /// What a place shows.
     #[inline(always)]
     pub fn get(&self, place: Ref) -> Option<Node>

@@ -6,21 +6,20 @@ use Rattle.heap_store.proofs.OpenLaws.{marked_open}
 use Rattle.heap_store.proofs.PlainCounts.{counted_more}
 use Rattle.heap_store.proofs.PlainSteps.{reserved_plain, reserved_view}
 use Rattle.heap_store.proofs.plain.PlainHeapHeap.reserve.Goals as goal
-use Rattle.heap_store.proofs.plain.PlainHeapHeap.reserve.Goals.{Else-k-self, After-draw}
+use Rattle.heap_store.proofs.plain.PlainHeapHeap.reserve.Goals.{Else-k-room, After-draw}
 
-room : (c : Else-k-self) → length c.args.self.now.nodes.shown + c.args.k ≤ fixed_places + c.args.self.now.capacity
+room : (c : Else-k-room) → length c.args.self.now.nodes.shown + c.args.k ≤ fixed_places + c.args.self.now.capacity
 room c =
     let h = c.args.self.now in
-    let five = fixed_drawn h.capacity h.row_capacity h.nodes.shown (reverse h.claims.items) h.rows.items h.plain in
-    omega (arith, five, h.plain.fits, c.if-k-self.false, c.drawn-drawn.ensures.drawn)
+    omega (arith, h.node_room, c.if-k-room.false, c.room.ensures, c.drawn-drawn.ensures.drawn)
 
 now_plain : (c : After-draw) → IsPlain c.args.self.now.capacity c.args.self.now.row_capacity c.draw.new.self.shown (reverse c.args.self.now.claims.items) c.args.self.now.rows.items
 now_plain c =
     let h = c.args.self.now in
-    rw c.draw.ensures (reserved_plain h.capacity h.row_capacity h.nodes.shown (reverse h.claims.items) h.rows.items h.plain h.open_rows.items h.refused h.last c.args.k (room (goal.at.invariant_of-self-2-clause-plain c).Else-k-self) c.requires)
+    rw c.draw.ensures (reserved_plain h.capacity h.row_capacity h.nodes.shown (reverse h.claims.items) h.rows.items h.plain h.open_rows.items h.refused h.last c.args.k (room (goal.at.invariant_of-self-2-clause-plain c).Else-k-room) c.requires)
 
 pub draw-requires : goal.draw-requires
-draw-requires c = omega (arith, room (goal.at.draw-requires c).Else-k-self, c.args.self.now.node_room)
+draw-requires c = omega (arith, room (goal.at.draw-requires c).Else-k-room, c.args.self.now.node_room)
 
 pub invariant_of-self-clause-node_room : goal.invariant_of-self-clause-node_room
 invariant_of-self-clause-node_room c = c.args.self.now.node_room
@@ -30,9 +29,9 @@ invariant_of-self-clause-plain c = c.args.self.now.plain
 
 pub invariant_of-self-clause-law : goal.invariant_of-self-clause-law
 invariant_of-self-clause-law c = let h = c.args.self.now in plain_lawful h.capacity h.row_capacity h.nodes.shown (reverse h.claims.items) h.rows.items h.plain c.note_refusal.new.rows.items c.saturating_add-self.result _ (rw c.note_refusal.ensures.items (marked_open h.open_rows.items (open_names 1 h.rows.items) h.law.open_in)) (λ _. record {
-  asked = omega (arith, c.if-k-self.true);
-  no_room = omega (arith, fixed_drawn h.capacity h.row_capacity h.nodes.shown (reverse h.claims.items) h.rows.items h.plain, h.plain.fits, c.if-k-self.true, c.drawn-drawn.ensures.drawn);
-  low = omega (arith, h.plain.fits, h.plain.small, c.if-k-self.true, c.drawn-drawn.ensures.drawn);
+  asked = omega (arith, c.if-k-room.true);
+  no_room = omega (arith, fixed_drawn h.capacity h.row_capacity h.nodes.shown (reverse h.claims.items) h.rows.items h.plain, h.plain.fits, h.node_room, c.room.ensures, c.if-k-room.true, c.drawn-drawn.ensures.drawn);
+  low = omega (arith, h.plain.fits, h.plain.small, h.node_room, c.room.ensures, c.if-k-room.true, c.drawn-drawn.ensures.drawn);
 })
 
 pub invariant_of-self-2-clause-node_room : goal.invariant_of-self-2-clause-node_room
@@ -51,5 +50,5 @@ pub returns-clause-ok : goal.returns-clause-ok
 returns-clause-ok c =
     let h = c.args.self.now in
     let five = fixed_drawn h.capacity h.row_capacity h.nodes.shown (reverse h.claims.items) h.rows.items h.plain in
-    rw c.draw.ensures (reserved_view h.capacity h.row_capacity h.nodes.shown (reverse h.claims.items) h.rows.items h.plain h.open_rows.items h.refused h.last c.args.k (room (goal.at.returns-clause-ok c).Else-k-self) c.requires c.new.result
+    rw c.draw.ensures (reserved_view h.capacity h.row_capacity h.nodes.shown (reverse h.claims.items) h.rows.items h.plain h.open_rows.items h.refused h.last c.args.k (room (goal.at.returns-clause-ok c).Else-k-room) c.requires c.new.result
     (omega (arith, c.new.ensures.next, c.drawn-drawn.ensures.drawn, five)) (omega (arith, c.new.ensures.end, c.new.ensures.next, c.drawn-drawn.ensures.drawn, five)))
