@@ -1,6 +1,6 @@
 -- What the reads of a tree find.
 use Rattle.std.proofs.Common.{◌≡◌, ◌⊎◌, ⊎_elim, ℕ, zero, suc, ◌≤◌, eqb, ltb, leb, refl, sym, ap, ◌∙◌, arith, subst, Bool, true, false, not, ◌&&◌, ◌||◌, Option, Some, None, length}
-use Rattle.std.specs.Prelude.{option_and_then}
+use Rattle.std.specs.Prelude.{flat_map, option_and_then}
 use Rattle.std.proofs.lemmas.Bool.{true≢false, and_parts, eqb-true, leb-true}
 use Rattle.lazy_rec.specs.declared.places.Ref.{Ref}
 use Rattle.lazy_rec.specs.declared.places.Item.{Item}
@@ -24,14 +24,16 @@ use Rattle.heap_store.proofs.ReadLaws.{holds_at}
 use Rattle.heap_store.specs.Values.{value_place, value_place_of}
 use Rattle.heap_store.proofs.ValueLaws.{value_place_is}
 use Rattle.finger_level.specs.declared.few.Few.{Few}
+use Rattle.finger_level.specs.Keyed.{key_in}
 use Rattle.finger_level.proofs.Keying.{keyed_of, digit_keys}
+use Rattle.finger_level.proofs.Builds.{digit_means}
 use Rattle.finger_level.specs.declared.few.Few.TheVariants as few
 use Rattle.finger_level.specs.declared.few.Weight.{Weight}
 use Rattle.finger_level.specs.declared.level.Digit.TheVariants as digits
 use Rattle.finger_level.specs.declared.level.Middle.TheVariants as middles
 use Rattle.finger_level.specs.declared.level.Level.TheVariants as levels
 use Rattle.finger_level.specs.Few.{few_list, no_place, digit_record, few_at, node_record, group_at}
-use Rattle.finger_level.specs.Reads.{is_tree_rec, is_tree_value, IsDigitAt, IsNodeAt, LevelRead, IsWeight}
+use Rattle.finger_level.specs.Reads.{is_tree_rec, is_tree_value, IsDigitAt, IsNodeAt, LevelRead, IsWeight, IsWeighedAt}
 use Rattle.finger_level.proofs.Records.{Counts, range_counts, node_counts}
 
 -- ---- values
@@ -108,6 +110,17 @@ few_record count e1 e2 e3 e4 z k h = by count (range_counts (Digit count e1 e2 e
 
 pub digit_at : {w : World} → IsLawful w → (p : ℕ) (count : ℕ) (e1 e2 e3 e4 : Ref) (z : ℕ) (k : Item) → recs w p ≡ Some (Digit count e1 e2 e3 e4 z k) → IsDigitAt w p (few_at count e1 e2 e3 e4)
 digit_at law p count e1 e2 e3 e4 z k e = record { weight = record { size = z; key = k }; here = e ∙ ap Some (few_record count e1 e2 e3 e4 z k (law.each p _ e).range) }
+
+-- a digit with its weight
+pub weighed_at : {w : World} → IsLawful w → (p : ℕ) (count : ℕ) (e1 e2 e3 e4 : Ref) (z : ℕ) (k : Item) → recs w p ≡ Some (Digit count e1 e2 e3 e4 z k) → IsWeighedAt w p (record { few = few_at count e1 e2 e3 e4; weight = record { size = z; key = k } })
+weighed_at {w} law p count e1 e2 e3 e4 z k e =
+    let d = digit_at law p count e1 e2 e3 e4 z k e in
+    let items : means (recs w) p ≡ flat_map (means (recs w)) (few_list (few_at count e1 e2 e3 e4)) = digit_means law p (few_at count e1 e2 e3 e4) d in
+    record {
+      shown = d;
+      size = eqb-true _ _ (law.each p _ e).sizes ∙ (ap length (sym (means_is (recs w) (lawful_names law) p _ e)) ∙ ap length items);
+      key = λ keyed h. eqb-true k.0 (key_in keyed (means (recs w) p)) (keyed_of law keyed p _ e h).key ∙ ap (key_in keyed) items;
+    }
 
 -- the elements of a digit
 pub few_elements : (f : Few) (w : Weight) → elements_of (digit_record f w) ≡ few_list f

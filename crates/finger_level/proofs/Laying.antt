@@ -11,7 +11,7 @@ use Rattle.heap_store.specs.Growth.{Grows}
 use Rattle.heap_store.specs.Lawful.{IsLawful}
 use Rattle.heap_store.specs.Hand.{Hand, IsInHand, contains, is_later}
 use Rattle.heap_store.specs.View.{View, IsLawfulView, Fits, Put, Quiet, purse}
-use Rattle.heap_store.proofs.Steps.{filling_start, filling_quiet, filling_put, Filled-none, unpassed_put, unpassed_quiet}
+use Rattle.heap_store.proofs.Steps.{Quiet_refl, filling_start, filling_quiet, filling_put, Filled-none, unpassed_put, unpassed_quiet}
 use Rattle.heap_store.proofs.FillLaws.{Filled_trans}
 use Rattle.heap_store.proofs.PutLaws.{place_fits}
 use Rattle.heap_store.proofs.UnitLaws.{free}
@@ -26,7 +26,7 @@ use Rattle.finger_level.specs.declared.few.Weight.{Weight}
 use Rattle.finger_level.specs.Few.{few_list, group_list, digit_record, node_record}
 use Rattle.finger_level.specs.declared.level.Digit.{Digit}
 use Rattle.finger_level.specs.declared.level.Digit.TheVariants as digits
-use Rattle.finger_level.specs.Puts.{Laid, AreElements, DigitPut}
+use Rattle.finger_level.specs.Puts.{Laid, AreElements, PartAsk, DigitPut}
 use Rattle.finger_level.specs.Reads.{IsThere, IsUnder}
 use Rattle.finger_level.proofs.Records.{fits_finger}
 use Rattle.finger_level.proofs.Builds.{elements_up, items_up, node_well, digit_well}
@@ -105,13 +105,25 @@ digit_fits {v = v} law0 g law d p held f w k size key =
 pub laid_none : {a : View} {run : Span} → IsInHand a.hand run → Laid a a run run 0
 laid_none {a} {run} held = record { filled = Filled-none a run.next; next = omega arith; end = refl; held = held; unpassed = λ s k. k; credits = omega arith }
 
+-- nothing was put, whatever was read
+pub laid_quiet : {a b : View} {run : Span} → IsInHand a.hand run → Quiet a b → Laid a b run run 0
+laid_quiet {a} {b} {run} held q = let f = filling_quiet (filling_start a run held) q in record { filled = f.filled; next = omega arith; end = refl; held = f.held; unpassed = λ s k. unpassed_quiet q s k; credits = omega (arith, f.credits) }
+
+-- what the put of a part asks, after reads
+pub part_later : {a b : View} {run : Span} {count : ℕ} → IsLawful a.seen → Quiet a b → (es : List ℕ) → PartAsk a run count es → PartAsk b run count es
+part_later {a} {b} {run} law q es k = record { depth = k.depth; elements = are_up law q.grows k.depth run.next es k.elements; held = rw q.hand k.held; room = k.room }
+
 -- a digit that stands already
 pub old_put : {a : View} {run : Span} (part : Digit) (place : Ref) (f : Few) → part ≡ digits.Old place f → IsInHand a.hand run → IsThere a.seen part → IsUnder run.next part → DigitPut a a run run part place.0
 old_put part place f e held there under = rw e (record { laid = laid_none held; under = rw e at under; shown = rw e at there })
 
-pub new_put : {a b c : View} {run run' : Span} (part : Digit) (f : Few) (w : Weight) (r : Rec) (place : ℕ) → part ≡ digits.New f → r ≡ digit_record f w → IsInHand a.hand run → Quiet a b → Put b c run.next r → run' ≡ record run { next = run.next + 1 } → place ≡ run.next → DigitPut a c run run' part place
-new_put {a} {b} {c} {run} {run'} part f w r place e same held q p after at = rw (e, at) (record {
-  laid = laid_put held q p after (rw same (digit_later run.next f w)) (rw same (digit_free (recs b.seen) run.next f w));
+pub new_put : {a b : View} {run run' : Span} (f : Few) (w : Weight) (r : Rec) (place : ℕ) → r ≡ digit_record f w → IsInHand a.hand run → Put a b run.next r → run' ≡ record run { next = run.next + 1 } → place ≡ run.next → DigitPut a b run run' (digits.New f) place
+new_put {a} {b} {run} {run'} f w r place same held p after at = rw at (record {
+  laid = laid_put held (Quiet_refl a) p after (rw same (digit_later run.next f w)) (rw same (digit_free (recs a.seen) run.next f w));
   under = rw after (omega arith);
   shown = record { weight = w; here = p.here ∙ ap Some same };
 })
+
+-- a digit that was put after reads
+pub put_after : {a b c : View} {run run' : Span} {place : ℕ} (part : Digit) (f : Few) → part ≡ digits.New f → IsInHand a.hand run → Quiet a b → DigitPut b c run run' (digits.New f) place → DigitPut a c run run' part place
+put_after part f e held q k = rw e (record { laid = laid_trans (laid_quiet held q) k.laid; under = k.under; shown = k.shown })

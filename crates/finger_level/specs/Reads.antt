@@ -1,5 +1,5 @@
 -- What is read of a tree: records of its sorts, levels as they stand, and what elements weigh.
-use Rattle.std.specs.Prelude.{◌≡◌, ℕ, ◌<◌, Bool, true, false, not, ◌&&◌, Some, None, length, option_and_then}
+use Rattle.std.specs.Prelude.{◌≡◌, ℕ, ◌<◌, Bool, true, false, not, ◌&&◌, Some, None, length, flat_map, option_and_then}
 use Rattle.lazy_rec.specs.declared.records.Rec.{Rec}
 use Rattle.lazy_rec.specs.declared.records.Rec.TheVariants.{Leaf, Node}
 use Rattle.lazy_rec.specs.declared.records.Sort.TheVariants as sorts
@@ -11,15 +11,16 @@ use Rattle.heap_store.specs.Lawful.{size_in, key_of}
 use Rattle.finger_level.specs.declared.few.Few.{Few}
 use Rattle.finger_level.specs.declared.few.Group.{Group}
 use Rattle.finger_level.specs.declared.few.Weight.{Weight}
+use Rattle.finger_level.specs.declared.few.WeighedFew.{WeighedFew}
 use Rattle.finger_level.specs.declared.level.Digit.{Digit}
 use Rattle.finger_level.specs.declared.level.Digit.TheVariants as digits
 use Rattle.finger_level.specs.declared.level.Middle.{Middle}
 use Rattle.finger_level.specs.declared.level.Middle.TheVariants as middles
 use Rattle.finger_level.specs.declared.level.Level.{Level}
 use Rattle.finger_level.specs.declared.level.Level.TheVariants as levels
-use Rattle.finger_level.specs.Few.{digit_record, node_record}
+use Rattle.finger_level.specs.Few.{few_list, digit_record, node_record}
 use Rattle.finger_level.specs.Level.{made_of}
-use Rattle.finger_level.specs.Keyed.{HasKeys, KeyedLevel}
+use Rattle.finger_level.specs.Keyed.{HasKeys, KeyedLevel, key_in}
 
 -- the sorts of a finger tree's records
 abbrev pub is_element : Rec → Bool
@@ -112,6 +113,12 @@ element_key _ = 0
 pub record IsWeight (w : World) (e : ℕ) (weight : Weight) : Type 0 where
   pub size : weight.size ≡ length (means (recs w) e)
   pub key : weight.key.0 ≡ at_record 0 element_key (recs w e)
+
+-- a digit that stands at a place with its weight: its items' number, and their greatest where the digit has keys
+pub record IsWeighedAt (w : World) (p : ℕ) (digit : WeighedFew) : Type 0 where
+  pub shown : IsDigitAt w p digit.few
+  pub size : digit.weight.size ≡ length (flat_map (means (recs w)) (few_list digit.few))
+  pub key : (keyed : Bool) → HasKeys keyed w p → digit.weight.key.0 ≡ key_in keyed (flat_map (means (recs w)) (few_list digit.few))
 
 -- the size that a record caches, 0 for the empty tree
 abbrev pub cached_size : Rec → ℕ

@@ -26,6 +26,13 @@ pub struct Weight {
     pub key: Item,
 }
 
+/// The elements of a digit that stands, with what it weighs.
+#[derive(Clone, Copy)]
+pub struct WeighedFew {
+    pub few: Few,
+    pub weight: Weight,
+}
+
 ghost use Rattle.finger_level.specs.Few.{digit_record, node_record};
 
 /// The record of a digit.

@@ -42,9 +42,9 @@ pub mod puts;
 pub mod reads;
 
 pub use concat::concat_level;
-pub use few::{Few, Group, Weight};
+pub use few::{Few, Group, WeighedFew, Weight};
 pub use level::{Digit, Family, Level, Middle, NodeRow, Nodes, Pushed, Side, places};
 pub use pops::{Popped, drawn_level, popped_level};
 pub use pushes::pushed_level;
-pub use puts::put_level;
-pub use reads::{read_digit, read_level};
+pub use puts::{put_few, put_level};
+pub use reads::{read_digit, read_level, read_weighed};

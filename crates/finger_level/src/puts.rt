@@ -91,9 +91,19 @@ pub fn put_digit<H: Heap>(h: &mut H, part: Digit, keyed: bool, run: &mut Run) ->
         Digit::Old { place, .. } => place,
         Digit::New(few) => {
             let weight = weigh_few(h, few, keyed);
-            h.put(run, digit(few, weight))
+            put_few(h, few, weight, run)
         }
     }
+}
+
+/// Publishes a digit of elements of one level, whose weight is known.
+pub fn put_few<H: Heap>(h: &mut H, few: Few, weight: Weight, run: &mut Run) -> Ref
+    requires part { PartAsk (H.view h.old) run.old 1 (few_list few) }
+    requires counts { weight.size ≡ length (flat_map (means (recs (H.view h.old).seen)) (few_list few)) }
+    ensures put { DigitPut (H.view h.old) (H.view h.new) run.old run.new (Digit.New few) result.0 }
+    ensures keys { (keyed : Bool) → AreKeyed keyed (H.view h.old).seen (few_list few) → weight.key.0 ≡ key_in keyed (flat_map (means (recs (H.view h.old).seen)) (few_list few)) → HasKeys keyed (H.view h.new).seen result.0 }
+{
+    h.put(run, digit(few, weight))
 }
 
 /// Publishes one or two nodes.

@@ -5,9 +5,9 @@ ghost use Rattle.lazy_rec.specs.Meaning.{means};
 ghost use Rattle.heap_store.specs.World.{recs, holds};
 ghost use Rattle.heap_store.specs.View.{Quiet};
 ghost use Rattle.finger_level.specs.Few.{few_list, group_list, digit_record, few_at, group_at};
-ghost use Rattle.finger_level.specs.Reads.{is_element, is_node_rec, is_digit_rec, is_tree_rec, is_tree_value, IsDigitAt, IsNodeAt, LevelRead, IsWeight};
+ghost use Rattle.finger_level.specs.Reads.{is_element, is_node_rec, is_digit_rec, is_tree_rec, is_tree_value, IsDigitAt, IsNodeAt, LevelRead, IsWeight, IsWeighedAt};
 
-use crate::few::{Few, Group, Weight};
+use crate::few::{Few, Group, WeighedFew, Weight};
 use crate::level::{Digit, Level, Middle};
 use heap_store::Heap;
 use lazy_rec::{Rec, Ref};
@@ -18,6 +18,15 @@ pub fn read_digit<H: Heap>(h: &mut H, p: Ref) -> Few
     ensures quiet { Quiet (H.view h.old) (H.view h.new) }
     ensures shown { IsDigitAt (H.view h.old).seen p.0 result }
 {
+    read_weighed(h, p).few
+}
+
+/// The elements of a digit and what it weighs, by one read.
+pub fn read_weighed<H: Heap>(h: &mut H, p: Ref) -> WeighedFew
+    requires { holds (recs (H.view h.old).seen) p.0 is_digit_rec ≡ true }
+    ensures quiet { Quiet (H.view h.old) (H.view h.new) }
+    ensures weighed { IsWeighedAt (H.view h.old).seen p.0 result }
+{
     match h.read(p) {
         Rec::Digit {
             count,
@@ -25,8 +34,12 @@ pub fn read_digit<H: Heap>(h: &mut H, p: Ref) -> Few
             e2,
             e3,
             e4,
-            ..
-        } => few_elements(count, e1, e2, e3, e4),
+            size,
+            key,
+        } => WeighedFew {
+            few: few_elements(count, e1, e2, e3, e4),
+            weight: Weight { size, key },
+        },
         _ => unreachable!(),
     }
 }

@@ -1,42 +1,39 @@
-use Rattle.std.proofs.Common.{arith, ap, ◌∙◌, Some}
+use Rattle.std.proofs.Common.{ap, ◌∙◌, sym, length}
 use Rattle.finger_level.specs.Few.{few_list}
-use Rattle.finger_level.specs.Puts.{AreElements}
-use Rattle.finger_level.specs.Level.{digit_list, digit_places}
+use Rattle.finger_level.specs.Puts.{PartAsk}
+use Rattle.finger_level.proofs.Builds.{items_up}
 use Rattle.finger_level.proofs.Weighing.{sorts_of_elements}
-use Rattle.finger_level.proofs.Laying.{digit_fits, old_put, new_put}
-use Rattle.finger_level.proofs.Keying.{few_keyed}
-use Rattle.heap_store.proofs.GrowthLaws.{grows_trans}
-use Rattle.finger_level.specs.Keyed.{AreKeyed}
+use Rattle.finger_level.proofs.Laying.{old_put, part_later, put_after}
+use Rattle.finger_level.proofs.Keying.{all_keyed_up, keyed_items}
+use Rattle.finger_level.specs.Keyed.{AreKeyed, key_in}
 use Rattle.finger_level.proofs.puts.put_digit.Goals as goal
+use Rattle.finger_level.proofs.puts.put_digit.Goals.{In-New}
+
+-- what the new digit asks
+asked : (g : _) (c : In-New g) → PartAsk (g.H.Heap.view c.args.h.now) c.args.run.now 1 (few_list c.in-New.few)
+asked g c = rw c.in-New.is at c.requires.part
 
 pub weigh_few-weight-requires : goal.weigh_few-weight-requires
 weigh_few-weight-requires g c =
-    let k = c.requires.part in
-    let w = (g.H.Heap.view c.args.h.now).seen in
-    let n : AreElements w k.depth c.args.run.now.next (few_list c.in-New.few) = rw (ap digit_list c.in-New.is) at k.elements in
-    record { elements = sorts_of_elements (g.met.H.Heap.lawful c.args.h.now).world k.depth c.args.run.now.next _ n.each; small = n.small }
+    let n = asked g (goal.at.weigh_few-weight-requires g c).In-New in
+    record { elements = sorts_of_elements (g.met.H.Heap.lawful c.args.h.now).world n.depth c.args.run.now.next _ n.elements.each; small = n.elements.small }
 
-pub put-requires-clause-left : goal.put-requires-clause-left
-put-requires-clause-left g c = let e = ap digit_places c.in-New.is in omega (arith, e, c.requires.part.room)
-
-pub put-requires-clause-fits : goal.put-requires-clause-fits
-put-requires-clause-fits g c =
+pub put_few-requires : goal.put_few-requires
+put_few-requires g c =
+    let n = asked g (goal.at.put_few-requires g c).In-New in
+    let law = (g.met.H.Heap.lawful c.args.h.now).world in
     let q = c.weigh_few-weight.ensures.quiet in
-    let k = c.requires.part in
-    let e = ap digit_places c.in-New.is in
-    rw c.digit.ensures (digit_fits (g.met.H.Heap.lawful c.args.h.now).world q.grows (g.met.H.Heap.lawful c.weigh_few-weight.new.h) k.depth c.args.run.now.next (rw q.hand (k.held.each c.args.run.now.next (omega arith) (omega (arith, e, k.room)))) c.in-New.few c.weigh_few-weight.result (rw (ap digit_list c.in-New.is) at k.elements) c.weigh_few-weight.ensures.size (omega arith))
+    record { part = part_later law q (few_list c.in-New.few) n; counts = c.weigh_few-weight.ensures.size ∙ ap length (items_up law q.grows n.depth c.args.run.now.next (few_list c.in-New.few) n.elements.each) }
 
 pub returns-in-Old-clause-put : goal.returns-in-Old-clause-put
 returns-in-Old-clause-put g c = old_put c.args.part c.in-Old.place c.in-Old.few c.in-Old.is c.requires.part.held c.requires.there c.requires.under
 
 pub returns-in-New-clause-put : goal.returns-in-New-clause-put
-returns-in-New-clause-put g c =
-    let p = c.put.ensures in
-    new_put c.args.part c.in-New.few c.weigh_few-weight.result c.digit.result c.put.result.0 c.in-New.is c.digit.ensures c.requires.part.held c.weigh_few-weight.ensures.quiet p.put p.run p.place
+returns-in-New-clause-put g c = put_after c.args.part c.in-New.few c.in-New.is c.requires.part.held c.weigh_few-weight.ensures.quiet c.put_few.ensures.put
 
 pub returns-in-New-clause-keys : goal.returns-in-New-clause-keys
 returns-in-New-clause-keys g c =
-    let p = c.put.ensures in
-    let w = (g.H.Heap.view c.args.h.now).seen in
-    λ h. (let k : AreKeyed c.args.keyed w (few_list c.in-New.few) = rw c.in-New.is at h in
-    rw p.place (few_keyed (g.met.H.Heap.lawful c.args.h.now).world (g.met.H.Heap.lawful c.put.new.self).world (grows_trans c.weigh_few-weight.ensures.quiet.grows p.put.grows) c.args.keyed c.in-New.few c.weigh_few-weight.result c.args.run.now.next (p.put.here ∙ ap Some c.digit.ensures) (c.weigh_few-weight.ensures.key k) k))
+    let law = (g.met.H.Heap.lawful c.args.h.now).world in
+    let up = c.weigh_few-weight.ensures.quiet.grows in
+    λ h. (let k : AreKeyed c.args.keyed (g.H.Heap.view c.args.h.now).seen (few_list c.in-New.few) = rw c.in-New.is at h in
+    c.put_few.ensures.keys c.args.keyed (all_keyed_up law up c.args.keyed (few_list c.in-New.few) k) (c.weigh_few-weight.ensures.key k ∙ ap (key_in c.args.keyed) (sym (keyed_items law up c.args.keyed (few_list c.in-New.few) k))))
