@@ -23,3 +23,4 @@ pub mod Joins
 pub mod TailPuts
 pub mod Draws
 pub mod Popping
+pub mod NearPushes

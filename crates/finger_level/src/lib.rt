@@ -45,6 +45,6 @@ pub use concat::concat_level;
 pub use few::{Few, Group, WeighedFew, Weight};
 pub use level::{Digit, Family, Level, Middle, NodeRow, Nodes, Pushed, Side, places};
 pub use pops::{Popped, drawn_level, popped_level};
-pub use pushes::pushed_level;
+pub use pushes::{pushed_level, pushed_places};
 pub use puts::{put_few, put_level};
 pub use reads::{read_digit, read_level, read_weighed};

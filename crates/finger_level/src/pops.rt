@@ -44,7 +44,7 @@ fn take_end(side: Side, few: Few) -> Taken
 }
 
 /// The digits of a deep tree: first that of the side, then the other.
-fn both_ends(side: Side, left: Ref, right: Ref) -> (Ref, Ref)
+pub(crate) fn both_ends(side: Side, left: Ref, right: Ref) -> (Ref, Ref)
     ensures { result ≡ both_ends side left right }
 {
     match side {

@@ -1,19 +1,21 @@
 //! Elements pushed onto a level, nothing of which is published yet.
-ghost use Rattle.std.specs.Prelude.{◌≡◌, ◌≤◌, ◌+◌, ℕ, suc, Bool, true};
+ghost use Rattle.std.specs.Prelude.{◌≡◌, ◌≤◌, ◌+◌, ℕ, suc, Bool, true, Some, ◌∷◌, []};
 ghost use Rattle.heap_store.specs.World.{World, recs, holds};
-ghost use Rattle.heap_store.specs.Completion.{push_one_left, push_one_right, node_left, node_right};
+ghost use Rattle.heap_store.specs.Completion.{Made, push_one_left, push_one_right, node_left, node_right};
 ghost use Rattle.heap_store.specs.View.{Quiet};
 ghost use Rattle.finger_level.specs.Few.{group_list};
-ghost use Rattle.finger_level.specs.Level.{made_of, middle_of, middle_takes_left, middle_takes_right, middle_room_left, middle_room_right, room_left, room_right, places_of, middle_places, kept_left, kept_right, made_places};
+ghost use Rattle.finger_level.specs.Level.{made_of, middle_of, middle_takes_left, middle_takes_right, middle_room_left, middle_room_right, room_left, room_right, places_of, middle_places, kept_left, kept_right, kept_of, made_places};
 ghost use Rattle.finger_level.specs.Reads.{AreThere, AreUnder, IsThereMiddle, IsUnderMiddle, is_tree_value};
 ghost use Rattle.finger_level.specs.Keyed.{HasKeys, AreKeyed, KeyedMiddle, KeyedLevel};
-ghost use Rattle.finger_level.specs.Pushes.{IsPushed};
+ghost use Rattle.finger_level.specs.Pushes.{push_all, IsPushed};
+ghost use Rattle.finger_level.specs.Pops.{shown_at};
 
 use crate::few::{Few, Group};
 use crate::level::{Digit, Level, Middle, Nodes, Pushed, Side, few_of};
-use crate::reads::read_level;
+use crate::pops::both_ends;
+use crate::reads::{read_digit, read_level};
 use heap_store::Heap;
-use lazy_rec::Ref;
+use lazy_rec::{Rec, Ref};
 
 /// An element pushed onto the left end. A full digit keeps two elements, and three go into the middle as a node.
 pub fn push_left(e: Ref, level: Level) -> Level
@@ -162,5 +164,27 @@ pub fn pushed_level<H: Heap>(h: &mut H, side: Side, es: Pushed, q: Ref) -> Level
             Pushed::One(e) => push_right(level, e),
             Pushed::Two(e, f) => push_right(push_right(level, e), f),
         },
+    }
+}
+
+/// How many places the level takes that the value at a place shows with one element pushed onto an end. They don't depend on the
+/// element, and of the digits only the one at that end is read: a full one overflows into a node and a suspended push.
+pub fn pushed_places<H: Heap>(h: &mut H, side: Side, q: Ref) -> u32
+    requires { holds (recs (H.view h.old).seen) q.0 is_tree_value ≡ true }
+    ensures quiet { Quiet (H.view h.old) (H.view h.new) }
+    ensures places { (shown : Made) → shown_at (H.view h.new).seen q.0 ≡ Some shown → result ≡ made_places (kept_of shown) (push_all side (0 ∷ []) shown) }
+    ensures most { result ≤ 4 }
+{
+    match h.read(q) {
+        Rec::TEmpty => 1,
+        Rec::Single { .. } => 3,
+        Rec::Deep { left, right, .. } => {
+            let (near, _) = both_ends(side, left, right);
+            match read_digit(h, near) {
+                Few::Four(_, _, _, _) => 4,
+                _ => 2,
+            }
+        }
+        _ => unreachable!(),
     }
 }
