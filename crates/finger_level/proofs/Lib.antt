@@ -24,3 +24,4 @@ pub mod TailPuts
 pub mod Draws
 pub mod Popping
 pub mod NearPushes
+pub mod NearPuts

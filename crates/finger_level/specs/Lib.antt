@@ -6,3 +6,4 @@ pub mod Pushes
 pub mod Puts
 pub mod Pops
 pub mod Concat
+pub mod NearPuts

@@ -36,6 +36,7 @@
 pub mod concat;
 pub mod few;
 pub mod level;
+mod near_puts;
 pub mod pops;
 pub mod pushes;
 pub mod puts;

@@ -23,7 +23,7 @@ pub struct Taken {
     pub rest: Option<Few>,
 }
 
-fn take_end(side: Side, few: Few) -> Taken
+pub(crate) fn take_end(side: Side, few: Few) -> Taken
     ensures { beside side (result.element.0 ∷ []) (rest_list result.rest) ≡ few_list few }
 {
     let (element, rest) = match side {
