@@ -7,3 +7,4 @@ pub mod Puts
 pub mod Pops
 pub mod Concat
 pub mod NearPuts
+pub mod NearPushes

@@ -1,0 +1,108 @@
+//! A value with one element pushed onto an end is put. Where the digit at that end has room, only the root and that digit are read.
+ghost use Rattle.std.specs.Prelude.{◌≡◌, ◌≤◌, ◌+◌, ◌∷◌, [], Some, max, true, cond};
+ghost use Rattle.heap_store.specs.World.{recs, holds};
+ghost use Rattle.finger_level.specs.Few.{few_list};
+ghost use Rattle.finger_level.specs.Reads.{is_element, is_tree_value, IsWeight};
+ghost use Rattle.finger_level.specs.Pushes.{beside};
+ghost use Rattle.finger_level.specs.NearPushes.{PushedAsk, PushedPut};
+
+use crate::few::{Few, Weight};
+use crate::level::{Family, Pushed, Side};
+use crate::near_puts::put_near;
+use crate::pops::both_ends;
+use crate::pushes::pushed_level;
+use crate::puts::put_level;
+use crate::reads::read_weighed;
+use heap_store::{Heap, Run};
+use lazy_rec::{Item, Rec, Ref};
+
+/// Publishes the value at `root` with the element `e`, of the weight `own`, pushed onto an end. All its items weigh `whole`.
+pub fn put_pushed<H: Heap>(
+    h: &mut H,
+    side: Side,
+    e: Ref,
+    own: Weight,
+    root: Ref,
+    whole: Weight,
+    family: Family,
+    keyed: bool,
+    run: &mut Run,
+) -> Ref
+    requires value { holds (recs (H.view h.old).seen) root.0 is_tree_value ≡ true }
+    requires element { holds (recs (H.view h.old).seen) e.0 is_element ≡ true }
+    requires weight { IsWeight (H.view h.old).seen e.0 own }
+    requires ask { PushedAsk (H.view h.old) run.old side e root.0 family whole }
+    ensures { PushedPut (H.view h.old) (H.view h.new) run.old run.new side e root.0 family keyed whole result.0 }
+{
+    let Rec::Deep {
+        left,
+        middle,
+        right,
+        ..
+    } = h.read(root)
+    else {
+        return put_whole(h, side, e, root, whole, family, keyed, run);
+    };
+    let (near, far) = both_ends(side, left, right);
+    let digit = read_weighed(h, near);
+    let Some(few) = longer(side, e, digit.few) else {
+        return put_whole(h, side, e, root, whole, family, keyed, run);
+    };
+    let weight = weigh_both(digit.weight, own, keyed);
+    put_near(h, side, few, weight, middle, far, whole, run)
+}
+
+/// The same by the whole level that the push makes: of no or one element, or where the digit overflows.
+#[cold]
+#[inline(never)]
+fn put_whole<H: Heap>(
+    h: &mut H,
+    side: Side,
+    e: Ref,
+    root: Ref,
+    whole: Weight,
+    family: Family,
+    keyed: bool,
+    run: &mut Run,
+) -> Ref
+    requires value { holds (recs (H.view h.old).seen) root.0 is_tree_value ≡ true }
+    requires ask { PushedAsk (H.view h.old) run.old side e root.0 family whole }
+    ensures { PushedPut (H.view h.old) (H.view h.new) run.old run.new side e root.0 family keyed whole result.0 }
+{
+    let level = pushed_level(h, side, Pushed::One(e), root);
+    put_level(h, level, whole, family, keyed, run)
+}
+
+/// A digit with one more element at the end of a side, where it has room.
+fn longer(side: Side, e: Ref, few: Few) -> Option<Few>
+    ensures { (f : Few) → result ≡ Some f → few_list f ≡ beside side (e.0 ∷ []) (few_list few) }
+{
+    let more = match side {
+        Side::Left => match few {
+            Few::One(a) => Few::Two(e, a),
+            Few::Two(a, b) => Few::Three(e, a, b),
+            Few::Three(a, b, c) => Few::Four(e, a, b, c),
+            Few::Four(_, _, _, _) => return None,
+        },
+        Side::Right => match few {
+            Few::One(a) => Few::Two(a, e),
+            Few::Two(a, b) => Few::Three(a, b, e),
+            Few::Three(a, b, c) => Few::Four(a, b, c, e),
+            Few::Four(_, _, _, _) => return None,
+        },
+    };
+    Some(more)
+}
+
+/// The weight of two parts. A tree without keys has 0 for each key.
+fn weigh_both(one: Weight, other: Weight, keyed: bool) -> Weight
+    requires { one.size + other.size ≤ 2147483647 }
+    ensures size { result.size ≡ one.size + other.size }
+    ensures key { result.key.0 ≡ cond keyed (max one.key.0 other.key.0) 0 }
+{
+    let key = one.key.0.max(other.key.0);
+    Weight {
+        size: one.size + other.size,
+        key: Item(if keyed { key } else { 0 }),
+    }
+}
