@@ -28,12 +28,9 @@ use Rattle.heap_store.proofs.LawfulLaws.{lawful_names}
 use Rattle.heap_store.proofs.MeaningLaws.{means_is, means_kept}
 use Rattle.heap_store.proofs.ShowLaws.{one_value}
 use Rattle.heap_store.proofs.Steps.{filling_start, filling_put, filling_quiet}
-use Rattle.finger_level.specs.declared.few.Few.TheVariants as few
 use Rattle.finger_level.specs.declared.few.Weight.{Weight}
 use Rattle.finger_level.specs.declared.level.Level.{Level}
 use Rattle.finger_level.specs.declared.level.Level.TheVariants as levels
-use Rattle.finger_level.specs.declared.level.Digit.TheVariants as digits
-use Rattle.finger_level.specs.declared.level.Middle.TheVariants as middles
 use Rattle.finger_level.specs.declared.level.Side.{Side}
 use Rattle.finger_level.specs.declared.level.Side.TheVariants as sides
 use Rattle.finger_level.specs.declared.level.Pushed.TheVariants as pushes
@@ -46,7 +43,6 @@ use Rattle.finger_level.proofs.Tops.{top_well, rest_open, push_all_well}
 use Rattle.heap_store.proofs.FillLaws.{Filled_trans}
 use Rattle.lazy_rec.specs.declared.records.Rec.TheVariants.{Leaf}
 use Rattle.lazy_rec.specs.Numbers.{bits}
-use Rattle.heap_store.specs.declared.versions.Version.{Version}
 use Rattle.heap_store.specs.declared.jobs.Stage.TheVariants.{Start}
 use Rattle.heap_store.specs.Legal.{in_order}
 use Rattle.heap_store.specs.Stages.{at_start, stage_due, stage_places, due_now, places_now}
@@ -56,12 +52,12 @@ use Rattle.heap_store.specs.View.{IsLawfulView, Fits}
 use Rattle.heap_store.proofs.PutLaws.{fits_value, put_names}
 use Rattle.heap_store.proofs.RangeLaws.{range_from}
 use Rattle.heap_store.proofs.UnitLaws.{free}
-use Rattle.finger_level.specs.Reads.{is_tree_rec, is_tree_value, is_at_rest}
-use Rattle.finger_level.specs.Keyed.{HasKeys, KeyedLevel, key_in}
+use Rattle.finger_level.specs.Reads.{is_tree_rec, is_tree_value}
+use Rattle.finger_level.specs.Keyed.{HasKeys, key_in}
 use Rattle.finger_level.specs.Pushes.{push_all, beside, IsPushed}
 use Rattle.finger_level.specs.Puts.{IsElement, IsLevel, LevelAsk, LevelPut, Follows}
 use Rattle.finger_level.proofs.Levels.{under_level}
-use Rattle.finger_apps.specs.Sequence.{pushes_at, push_places, places_for, shown_at}
+use Rattle.finger_apps.specs.Sequence.{pushes_at, push_places, places_for}
 use Rattle.finger_apps.proofs.Bases.{BaseRoot, base_up, Given, end_looked, same_built, stays}
 use Rattle.heap_store.proofs.Steps.{Quiet_refl}
 use Rattle.heap_store.specs.declared.jobs.After.{After}
@@ -88,60 +84,8 @@ same_places sides.Right e k (top.deep l m (a ∷ b ∷ c ∷ [])) = refl
 same_places sides.Right e k (top.deep l m (a ∷ b ∷ c ∷ d ∷ [])) = refl
 same_places sides.Right e k (top.deep l m (a ∷ b ∷ c ∷ d ∷ f ∷ fs)) = refl
 
-few_places : (side : Side) (e : ℕ) (l : Level) → is_at_rest l ≡ true → made_places (kept_of (made_of l)) (push_all side (e ∷ []) (made_of l)) ≤ 4
-few_places sides.Left e levels.Empty h = omega arith
-few_places sides.Left e (levels.One x) h = omega arith
-few_places sides.Left e (levels.Deep (digits.Old p (few.One a)) (middles.Tree t) (digits.Old q g)) h = omega arith
-few_places sides.Left e (levels.Deep (digits.Old p (few.Two a b)) (middles.Tree t) (digits.Old q g)) h = omega arith
-few_places sides.Left e (levels.Deep (digits.Old p (few.Three a b c)) (middles.Tree t) (digits.Old q g)) h = omega arith
-few_places sides.Left e (levels.Deep (digits.Old p (few.Four a b c d)) (middles.Tree t) (digits.Old q g)) h = omega arith
-few_places sides.Right e levels.Empty h = omega arith
-few_places sides.Right e (levels.One x) h = omega arith
-few_places sides.Right e (levels.Deep (digits.Old p g) (middles.Tree t) (digits.Old q (few.One a))) h = omega arith
-few_places sides.Right e (levels.Deep (digits.Old p g) (middles.Tree t) (digits.Old q (few.Two a b))) h = omega arith
-few_places sides.Right e (levels.Deep (digits.Old p g) (middles.Tree t) (digits.Old q (few.Three a b c))) h = omega arith
-few_places sides.Right e (levels.Deep (digits.Old p g) (middles.Tree t) (digits.Old q (few.Four a b c d))) h = omega arith
-few_places side e (levels.Deep (digits.New f) m r) h = absurd (true≢false (sym h))
-few_places side e (levels.Deep (digits.Old p f) (middles.Tree t) (digits.New g)) h = absurd (true≢false (sym h))
-few_places side e (levels.Deep (digits.Old p f) (middles.PushL t ns) r) h = absurd (not_rest r h)
-  where
-    not_rest : (r : _) → is_at_rest (levels.Deep (digits.Old p f) (middles.PushL t ns) r) ≡ true → ⊥
-    not_rest (digits.Old _ _) h = true≢false (sym h)
-    not_rest (digits.New _) h = true≢false (sym h)
-few_places side e (levels.Deep (digits.Old p f) (middles.PushR t ns) r) h = absurd (not_rest r h)
-  where
-    not_rest : (r : _) → is_at_rest (levels.Deep (digits.Old p f) (middles.PushR t ns) r) ≡ true → ⊥
-    not_rest (digits.Old _ _) h = true≢false (sym h)
-    not_rest (digits.New _) h = true≢false (sym h)
-few_places side e (levels.Deep (digits.Old p f) (middles.Tail sd t d) r) h = absurd (not_rest r h)
-  where
-    not_rest : (r : _) → is_at_rest (levels.Deep (digits.Old p f) (middles.Tail sd t d) r) ≡ true → ⊥
-    not_rest (digits.Old _ _) h = true≢false (sym h)
-    not_rest (digits.New _) h = true≢false (sym h)
-few_places side e (levels.Deep (digits.Old p f) (middles.Shorter sd l t d) r) h = absurd (not_rest r h)
-  where
-    not_rest : (r : _) → is_at_rest (levels.Deep (digits.Old p f) (middles.Shorter sd l t d) r) ≡ true → ⊥
-    not_rest (digits.Old _ _) h = true≢false (sym h)
-    not_rest (digits.New _) h = true≢false (sym h)
-few_places side e (levels.Deep (digits.Old p f) (middles.Between x n y) r) h = absurd (not_rest r h)
-  where
-    not_rest : (r : _) → is_at_rest (levels.Deep (digits.Old p f) (middles.Between x n y) r) ≡ true → ⊥
-    not_rest (digits.Old _ _) h = true≢false (sym h)
-    not_rest (digits.New _) h = true≢false (sym h)
-
 push_room : (side : Side) (size : ℕ) (shown : Made) → size < 2147483647 → push_places side size shown ≡ suc (made_places (kept_of shown) (push_all side (0 ∷ []) shown))
 push_room side size shown few = cond-false (eqb size most_items) 0 _ (ne_eqb size most_items (λ z. omega (arith, z, few)))
-
--- a push takes at most five places, the leaf's among them
-pub places_found : {w : World} (base : Version) (side : Side) (level : Level) (nodes : ℕ) → base.size < 2147483647 → IsPushed w side (pushes.One (record { 0 = 0 })) base.root.0 level → nodes ≡ places_of level → ((shown : Made) → shown_at w base.root.0 ≡ Some shown → nodes + 1 ≡ push_places side base.size shown) × (nodes + 1 ≤ 5)
-places_found {w} base side level nodes few m n =
-    let all : places_of level ≡ made_places (kept_of (made_of m.before)) (push_all side (0 ∷ []) (made_of m.before)) = m.places ∙ ap (made_places (kept_of (made_of m.before))) m.made in
-    let most = few_places side 0 m.before m.read.rests in (
-      (λ shown e. (let z : made_of m.before ≡ shown = one_value _ _ (sym m.read.made ∙ e) in
-          let x : nodes + 1 ≡ suc (made_places (kept_of shown) (push_all side (0 ∷ []) shown)) = rw (← z) (omega (arith, n, all)) in
-          x ∙ sym (push_room side base.size shown few))),
-      omega (arith, n, all, most),
-    )
 
 pub full_places : (side : Side) (size : ℕ) (shown : Made) → size ≡ 2147483647 → push_places side size shown ≡ 0
 full_places side size shown full = cond-true (eqb size most_items) 0 (suc (made_places (kept_of shown) (push_all side (0 ∷ []) shown))) (eq-eqb size most_items full)
@@ -288,8 +232,9 @@ pushable {a} {c} {job} {run} {next} {leaf} k side kind op stage level m whole si
     follows (levels.One e) = tt
     follows (levels.Deep l m r) = tt
 
-pub push_ended : {a c n : View} {job : EventJob} {run next z : Span} {leaf : Ref} (side : Side) → job.base.kind ≡ kinds.Seq → pushes_at job.op side ≡ true → job.stage ≡ Start → Leafed a c job run next leaf → (level : Level) (whole : Weight) → whole.key.0 ≡ 0 → IsPushed c.seen side (pushes.One leaf) job.base.root.0 level → Pushable a c job side next level whole → IsLawful n.seen → (root : Ref) → LevelPut c n next z First level root.0 → (KeyedLevel false c.seen level → whole.key.0 ≡ key_in false (items_of_made (means (recs c.seen)) (made_of level)) → HasKeys false n.seen root.0) → IsEventBuilt a n job run z (End root (job.base.size + 1) replies.Ok)
-push_ended {a} {c} {n} {job} {run} {next} {z} {leaf} side kind op stage k level whole none m p law3 root l made =
+pub push_ended : {a c n : View} {job : EventJob} {run next z : Span} {leaf : Ref} (side : Side) → job.base.kind ≡ kinds.Seq → pushes_at job.op side ≡ true → job.stage ≡ Start → Leafed a c job run next leaf → (level : Level) (whole : Weight) → whole.size ≡ job.base.size + 1 → whole.key.0 ≡ 0 → IsPushed c.seen side (pushes.One leaf) job.base.root.0 level → IsLawful n.seen → (root : Ref) → LevelPut c n next z First level root.0 → (HasKeys false c.seen job.base.root.0 → HasKeys false c.seen leaf.0 → whole.key.0 ≡ key_in false (items_of_made (means (recs c.seen)) (made_of level)) → HasKeys false n.seen root.0) → IsEventBuilt a n job run z (End root (job.base.size + 1) replies.Ok)
+push_ended {a} {c} {n} {job} {run} {next} {z} {leaf} side kind op stage k level whole size none m law3 root l made =
+    let p = pushable k side kind op stage level m whole size in
     let g = l.filled.grows in
     let b = base_up k.law (grows_trans k.filled.grows g) job.base k.given.base in
     let end : z.next ≡ run.end = omega (arith, l.next, p.end_is, k.end_is) in
@@ -300,7 +245,7 @@ push_ended {a} {c} {n} {job} {run} {next} {z} {leaf} side kind op stage k level 
       spent = omega (arith, end, l.end, k.end_is);
       made = push_end law3 job side kind op b k.few root.0 l.value (l.of_level 0 p.parts)
           (l.items ∙ (p.items ∙ ap (beside side (job.arg ∷ [])) (means_kept (recs c.seen) (recs n.seen) (lawful_names k.law2) g.records job.base.root.0 (base.0, base.1))))
-          (made (m.keyed false (base_up k.law k.filled.grows job.base k.given.base).keys (keyed_from k.law2 false leaf.0 _ k.here refl tt, tt)) none);
+          (made (base_up k.law k.filled.grows job.base k.given.base).keys (keyed_from k.law2 false leaf.0 _ k.here refl tt) none);
       credits = (let due = (job_may job side kind op stage).1 in let count = ap bits (ap length p.items ∙ both_length side (job.arg ∷ []) (means (recs c.seen) job.base.root.0)) in let more = ap bits more_one in omega (arith, l.credits, k.credits, due, count, more));
     }
   where

@@ -13,11 +13,11 @@ ghost use Rattle.finger_apps.specs.Sequence.{is_end_op, is_pop, drops, pushes_at
 
 use crate::sequence::end_item;
 use finger_level::{
-    Family, Popped, Pushed, Side, Weight, places, popped_level, pushed_level, put_level,
+    Family, Popped, Side, Weight, places, popped_level, pushed_places, put_level, put_pushed,
 };
 use heap_store::{After, Cursor, EventJob, Heap, Prep, Run, Stage, Version};
 use lazy_rec::limits::MOST_ITEMS;
-use lazy_rec::{Item, Kind, Op, Rec, Ref, Reply};
+use lazy_rec::{Item, Kind, Op, Rec, Reply};
 
 /// Whether an operation of sequences is built: `size`, and those at the ends.
 pub fn is_end_op(op: Op) -> bool
@@ -89,8 +89,7 @@ fn places_of_push<H: Heap>(h: &mut H, side: Side, base: &Version) -> u32
     if base.size == MOST_ITEMS {
         return 0;
     }
-    let level = pushed_level(h, side, Pushed::One(Ref(0)), base.root);
-    places(level) + 1
+    pushed_places(h, side, base.root) + 1
 }
 
 /// What a pop needs, and how many places it takes.
@@ -145,12 +144,16 @@ fn push<H: Heap>(h: &mut H, side: Side, job: &EventJob, run: &mut Run) -> After
     }
     let item = argument(job);
     let leaf = h.put(run, Rec::Leaf { item: Item(item) });
-    let level = pushed_level(h, side, Pushed::One(leaf), job.base.root);
+    let own = Weight {
+        size: 1,
+        key: Item(item),
+    };
     let whole = Weight {
         size: job.base.size + 1,
         key: Item(0),
     };
-    let root = put_level(h, level, whole, Family::First, false, run);
+    let first = Family::First;
+    let root = put_pushed(h, side, leaf, own, job.base.root, whole, first, false, run);
     After::End {
         root,
         size: job.base.size + 1,

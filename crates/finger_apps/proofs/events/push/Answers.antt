@@ -1,9 +1,12 @@
 use Rattle.std.proofs.Common.{◌<◌, ◌+◌, arith, refl, ap}
 use Rattle.heap_store.specs.OneStage.{is_end}
+use Rattle.heap_store.specs.Lawful.{IsLawful}
+use Rattle.heap_store.specs.View.{View, Quiet}
+use Rattle.finger_level.proofs.Found.{leaf_weight}
 use Rattle.finger_apps.proofs.Bases.{given, base_up, same_root}
-use Rattle.finger_apps.proofs.PushEnds.{push_taken, full_built, fits_leaf, Leafed, leafed, Pushable, pushable, push_ended}
+use Rattle.finger_apps.proofs.PushEnds.{push_taken, full_built, fits_leaf, Leafed, leafed, pushable, push_ended}
 use Rattle.finger_apps.proofs.events.push.Goals as goal
-use Rattle.finger_apps.proofs.events.push.Goals.{After-argument-item, After-pushed_level-level}
+use Rattle.finger_apps.proofs.events.push.Goals.{After-argument-item, After-put-leaf}
 
 pub returns-then-job-eq-MOST_ITEMS : goal.returns-then-job-eq-MOST_ITEMS
 returns-then-job-eq-MOST_ITEMS g c =
@@ -32,29 +35,30 @@ put-leaf-requires-clause-fits g c =
     let a = c.argument-item.ensures in
     fits_leaf (g.met.H.Heap.lawful c.args.h.now) c.args.run.now.next (c.requires.build.held.each c.args.run.now.next (omega arith) here) (record { 0 = c.argument-item.result }) (omega (arith, a.same, a.small))
 
-pub pushed_level-level-requires : goal.pushed_level-level-requires
-pushed_level-level-requires g c = let law = (g.met.H.Heap.lawful c.args.h.now).world in (base_up law c.put-leaf.ensures.put.grows c.args.job.now.base (given law c.requires.kind c.requires.build).base).value
+pub put_pushed-root-requires-clause-value : goal.put_pushed-root-requires-clause-value
+put_pushed-root-requires-clause-value g c = let law = (g.met.H.Heap.lawful c.args.h.now).world in (base_up law c.put-leaf.ensures.put.grows c.args.job.now.base (given law c.requires.kind c.requires.build).base).value
 
-leaf : (g : _) (c : After-pushed_level-level g) → Leafed (g.H.Heap.view c.args.h.now) (g.H.Heap.view c.pushed_level-level.new.h) c.args.job.now c.args.run.now c.put-leaf.new.run c.put-leaf.result
-leaf g c =
+pub put_pushed-root-requires-clause-weight : goal.put_pushed-root-requires-clause-weight
+put_pushed-root-requires-clause-weight g c = let p = c.put-leaf.ensures in leaf_weight (g.met.H.Heap.lawful c.put-leaf.new.self).world c.put-leaf.result.0 (record { 0 = c.argument-item.result }) (rw p.place p.put.here)
+
+-- the leaf stands, whatever is read then
+leaf : (g : _) (c : After-put-leaf g) → (v : View) → Quiet (g.H.Heap.view c.put-leaf.new.self) v → IsLawful v.seen → Leafed (g.H.Heap.view c.args.h.now) v c.args.job.now c.args.run.now c.put-leaf.new.run c.put-leaf.result
+leaf g c v q law2 =
     let law = (g.met.H.Heap.lawful c.args.h.now).world in
     let k = given law c.requires.kind c.requires.build in
     let p = c.put-leaf.ensures in
-    leafed k law (g.met.H.Heap.lawful c.pushed_level-level.new.h).world (omega (arith, k.base.most, c.if-job-eq-MOST_ITEMS.false)) (rw c.argument-item.ensures.same at p.put) p.run p.place c.pushed_level-level.ensures.quiet
+    leafed k law law2 (omega (arith, k.base.most, c.if-job-eq-MOST_ITEMS.false)) (rw c.argument-item.ensures.same at p.put) p.run p.place q
 
--- the level that is put
-level : (g : _) (c : After-pushed_level-level g) → Pushable (g.H.Heap.view c.args.h.now) (g.H.Heap.view c.pushed_level-level.new.h) c.args.job.now c.args.side c.put-leaf.new.run c.pushed_level-level.result (record { size = c.args.job.now.base.size + 1; key = record { 0 = 0 } })
-level g c = pushable (leaf g c) c.args.side c.requires.kind c.requires.op c.requires.stage c.pushed_level-level.result c.pushed_level-level.ensures.pushed (record { size = c.args.job.now.base.size + 1; key = record { 0 = 0 } }) refl
-
-pub put_level-root-requires : goal.put_level-root-requires
-put_level-root-requires g c = (level g (goal.at.put_level-root-requires g c).After-pushed_level-level).ask
+pub put_pushed-root-requires-clause-ask : goal.put_pushed-root-requires-clause-ask
+put_pushed-root-requires-clause-ask g c = λ v q law level m. (pushable (leaf g (goal.at.put_pushed-root-requires-clause-ask g c).After-put-leaf v q law) c.args.side c.requires.kind c.requires.op c.requires.stage level m (record { size = c.args.job.now.base.size + 1; key = record { 0 = 0 } }) refl).ask
 
 pub returns : goal.returns
 returns g c =
-    let d = (goal.at.returns g c).After-pushed_level-level in
+    let d = (goal.at.returns g c).After-put-leaf in
     let here = some g (goal.at.returns g c).After-argument-item in
+    let p = c.put_pushed-root.ensures in
     record {
-      built = push_ended c.args.side c.requires.kind c.requires.op c.requires.stage (leaf g d) c.pushed_level-level.result _ refl c.pushed_level-level.ensures.pushed (level g d) (g.met.H.Heap.lawful c.put_level-root.new.h).world c.put_level-root.result c.put_level-root.ensures.put c.put_level-root.ensures.keys;
+      built = push_ended c.args.side c.requires.kind c.requires.op c.requires.stage (leaf g d p.then_view p.quiet p.law) p.level (record { size = c.args.job.now.base.size + 1; key = record { 0 = 0 } }) refl refl p.pushed (g.met.H.Heap.lawful c.put_pushed-root.new.h).world c.put_pushed-root.result p.put p.keys;
       base = λ e. absurd (omega (arith, e, here));
       ends = refl;
     }

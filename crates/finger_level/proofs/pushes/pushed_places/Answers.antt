@@ -1,4 +1,4 @@
-use Rattle.std.proofs.Common.{◌≡◌, sym, ap, ◌∙◌, Some, arith}
+use Rattle.std.proofs.Common.{◌≡◌, sym, ◌∙◌, Some, arith}
 use Rattle.lazy_rec.specs.declared.records.Rec.TheVariants.{Deep}
 use Rattle.heap_store.specs.World.{recs}
 use Rattle.heap_store.proofs.Steps.{Quiet_trans}
