@@ -5,7 +5,7 @@ use Rattle.std.proofs.lemmas.Bool.{true≢false, and_parts, eqb-true, leb-true}
 use Rattle.lazy_rec.specs.declared.places.Ref.{Ref}
 use Rattle.lazy_rec.specs.declared.places.Item.{Item}
 use Rattle.lazy_rec.specs.declared.records.Rec.{Rec}
-use Rattle.lazy_rec.specs.declared.records.Rec.TheVariants.{TEmpty, Leaf, Node, Digit, Single, Deep, PushL, PushR, DeepL, DeepR, Concat}
+use Rattle.lazy_rec.specs.declared.records.Rec.TheVariants.{TEmpty, Leaf, Node, Digit, Single, Deep}
 use Rattle.lazy_rec.specs.declared.records.Sort.TheVariants as sorts
 use Rattle.lazy_rec.specs.Named.{sort_of, same_sort, is_pending}
 use Rattle.lazy_rec.specs.Meaning.{means}
@@ -14,7 +14,7 @@ use Rattle.heap_store.specs.World.{World, recs, holds, done_at, value_at}
 use Rattle.heap_store.specs.Completion.{elements_of, elements}
 use Rattle.heap_store.specs.Growth.{Grows}
 use Rattle.heap_store.specs.Lawful.{IsLawful, level, is_of_level, height}
-use Rattle.finger_level.proofs.Values.{is_levelled, level_unique}
+use Rattle.finger_level.proofs.Values.{pending_levelled, level_unique}
 use Rattle.std.proofs.Common.{inl, inr}
 use Rattle.heap_store.proofs.GrowthLaws.{at_true, sorts_agree}
 use Rattle.heap_store.proofs.LawfulLaws.{lawful_names}
@@ -47,18 +47,6 @@ pub record IsValueAt (w : World) (p q : ℕ) : Type 0 where
   pub low : height (recs w) q ≤ height (recs w) p
   pub of_level : (d : ℕ) → is_of_level (recs w) p d ≡ true → is_of_level (recs w) q d ≡ true
 
--- a pending record of a tree has elements below it
-waits_levelled : (r : Rec) → is_pending r ≡ true → is_tree_rec r ≡ true → is_levelled r ≡ true
-waits_levelled (PushL _ _ _ _ _ _ _ _) h k = refl
-waits_levelled (PushR _ _ _ _ _ _ _ _) h k = refl
-waits_levelled (DeepL _ _ _ _ _ _) h k = refl
-waits_levelled (DeepR _ _ _ _ _ _) h k = refl
-waits_levelled (Concat _ _ _ _ _ _ _) h k = refl
-waits_levelled TEmpty h k = absurd (true≢false (sym h))
-waits_levelled (Single _ _ _) h k = absurd (true≢false (sym h))
-waits_levelled (Deep _ _ _ _ _) h k = absurd (true≢false (sym h))
-waits_levelled _ h k = absurd (true≢false (sym k))
-
 -- where a value was found: at the place itself, or at the one with which it is done
 found_at : (w : World) (p q : ℕ) (r : Rec) → recs w p ≡ Some r → value_place w p ≡ Some q → (q ≡ p) ⊎ ((steps : ℕ) × (done_at w p ≡ Some (q, steps)))
 found_at w p q r e at = go (is_pending r) refl (done_at w p) refl (sym (ap (option_and_then (value_place_of w p)) e) ∙ at)
@@ -90,7 +78,7 @@ value_tree {w} law p q tree at =
     done_level r e t steps f d h =
         let well = law.done p r e (q, steps) f in
         let lv : is_of_level (recs w) q (level (recs w) p) ≡ true = rw t at well.levels in
-        subst (λ n. is_of_level (recs w) q n ≡ true) (level_unique law p d r e (waits_levelled r well.pending t) h) lv
+        subst (λ n. is_of_level (recs w) q n ≡ true) (level_unique law p d r e (pending_levelled r well.pending t) h) lv
 
 -- ---- digits
 

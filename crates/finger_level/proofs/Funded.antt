@@ -28,7 +28,7 @@ use Rattle.heap_store.proofs.GrowthLaws.{at_true}
 use Rattle.lazy_rec.specs.Tests.{is_some_and}
 use Rattle.heap_store.specs.Lawful.{is_first_tree}
 use Rattle.finger_level.proofs.Families.{Suspended, suspended_tree, tree_size}
-use Rattle.finger_level.proofs.Values.{element_size, is_levelled, element_levelled, digit_levelled, own_level_is, level_is}
+use Rattle.finger_level.proofs.Values.{element_size, is_levelled, element_levelled, digit_levelled, own_level_is, level_is, pending_levelled}
 
 -- ---- digits of numbers
 
@@ -116,17 +116,6 @@ one_unit s TEmpty h k = absurd (true≢false (sym h))
 one_unit s (Single _ _ _) h k = absurd (true≢false (sym h))
 one_unit s (Deep _ _ _ _ _) h k = absurd (true≢false (sym h))
 one_unit s _ h k = absurd (true≢false (sym k))
-
-pending_levelled : (r : Rec) → is_pending r ≡ true → is_tree_rec r ≡ true → is_levelled r ≡ true
-pending_levelled (PushL _ _ _ _ _ _ _ _) h k = refl
-pending_levelled (PushR _ _ _ _ _ _ _ _) h k = refl
-pending_levelled (DeepL _ _ _ _ _ _) h k = refl
-pending_levelled (DeepR _ _ _ _ _ _) h k = refl
-pending_levelled (Concat _ _ _ _ _ _ _) h k = refl
-pending_levelled TEmpty h k = absurd (true≢false (sym h))
-pending_levelled (Single _ _ _) h k = absurd (true≢false (sym h))
-pending_levelled (Deep _ _ _ _ _) h k = absurd (true≢false (sym h))
-pending_levelled _ h k = absurd (true≢false (sym k))
 
 -- a unit that the first suspension of a family shows
 unit_there : {w : World} → IsLawful w → (o i : ℕ) (r : Rec) (n : ℕ) → recs w o ≡ Some r → is_pending r ≡ true → size_in r ≡ Some n → family_of o r ≡ (o, 0) → i < bits n → is_member same_unit (all_discharged w) (o, i) ≡ true

@@ -5,9 +5,9 @@ use Rattle.std.specs.List.{AllByRecursion, list_all}
 use mathlib.Core.Path.{fun_ext}
 use Rattle.std.proofs.lemmas.Bool.{true≢false, and_parts, eqb-true}
 use Rattle.lazy_rec.specs.declared.records.Rec.{Rec}
-use Rattle.lazy_rec.specs.declared.records.Rec.TheVariants.{Leaf, Node, Digit, Single, Deep, PushL, PushR, DeepL, DeepR, Concat}
+use Rattle.lazy_rec.specs.declared.records.Rec.TheVariants.{TEmpty, Leaf, Node, Digit, Single, Deep, PushL, PushR, DeepL, DeepR, Concat}
 use Rattle.lazy_rec.specs.declared.records.Sort.TheVariants as sorts
-use Rattle.lazy_rec.specs.Named.{NamedPlace, named, sort_of, same_sort}
+use Rattle.lazy_rec.specs.Named.{NamedPlace, named, sort_of, same_sort, is_pending}
 use Rattle.lazy_rec.specs.Meaning.{means, means_of, joined}
 use Rattle.lazy_rec.specs.Units.{family_of}
 use Rattle.heap_store.specs.World.{World, recs}
@@ -19,6 +19,7 @@ use Rattle.heap_store.proofs.HeightLaws.{height_is, origin_most}
 use Rattle.heap_store.proofs.MeaningLaws.{by_record_is, means_is}
 use Rattle.std.proofs.lemmas.List.{length-append}
 use Rattle.heap_store.proofs.RecordLaws.{level_at, level_look}
+use Rattle.finger_level.specs.Reads.{is_tree_rec}
 use Rattle.finger_level.proofs.Records.{node_counts, digit_counts, push_left_counts, push_right_counts}
 use Rattle.std.specs.Prelude.{is_some}
 use Rattle.std.proofs.Common.{pow-suc}
@@ -46,6 +47,18 @@ element_levelled _ h = absurd (let z = ap (λ s. same_sort s sorts.Element) h in
 pub digit_levelled : (r : Rec) → sort_of r ≡ sorts.Digit → is_levelled r ≡ true
 digit_levelled (Digit _ _ _ _ _ _ _) h = refl
 digit_levelled _ h = absurd (let z = ap (λ s. same_sort s sorts.Digit) h in true≢false (sym z))
+
+-- a pending record of a tree has elements below it
+pub pending_levelled : (r : Rec) → is_pending r ≡ true → is_tree_rec r ≡ true → is_levelled r ≡ true
+pending_levelled (PushL _ _ _ _ _ _ _ _) h k = refl
+pending_levelled (PushR _ _ _ _ _ _ _ _) h k = refl
+pending_levelled (DeepL _ _ _ _ _ _) h k = refl
+pending_levelled (DeepR _ _ _ _ _ _) h k = refl
+pending_levelled (Concat _ _ _ _ _ _ _) h k = refl
+pending_levelled TEmpty h k = absurd (true≢false (sym h))
+pending_levelled (Single _ _ _) h k = absurd (true≢false (sym h))
+pending_levelled (Deep _ _ _ _ _) h k = absurd (true≢false (sym h))
+pending_levelled _ h k = absurd (true≢false (sym k))
 
 pub any_is : (n l : ℕ) → 0 < n → if_any n l ≡ l
 any_is zero l h = absurd (omega arith)

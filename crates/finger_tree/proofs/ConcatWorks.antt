@@ -23,6 +23,7 @@ use Rattle.finger_level.specs.Reads.{is_digit_rec, is_tree_rec}
 use Rattle.finger_level.specs.Puts.{IsTree, IsLevel}
 use Rattle.finger_level.specs.Pops.{AreLow}
 use Rattle.finger_level.specs.Concat.{joined_kept, IsConcat}
+use Rattle.finger_level.proofs.Draws.{lower}
 use Rattle.finger_level.proofs.Families.{tree_size}
 use Rattle.finger_level.proofs.Found.{IsValueAt}
 use Rattle.finger_level.proofs.Keying.{keyed_of, value_keyed}
@@ -30,7 +31,6 @@ use Rattle.finger_level.proofs.Tops.{top_well, digit_top}
 use Rattle.finger_level.proofs.Joins.{joins, top_shown}
 use Rattle.finger_tree.specs.declared.concat.Join.{Join}
 use Rattle.finger_tree.specs.Work.{shown_by, main_of, joining}
-use Rattle.finger_tree.proofs.PushWorks.{low_elements}
 use Rattle.finger_tree.proofs.Works.{Shape, Waited, Makes, shown_at, value_there}
 
 -- ---- a suspended concatenation in the world
@@ -127,8 +127,8 @@ level_well {w} law s p q limit j left right e kp kq shows_p shows_q s_low p_low 
         small = (let z = ap length items in omega (arith, z, f.counts, f.small));
       };
       low = record {
-        elements = a.elements _ (low_elements w _ j.origin.0 (elements_in left) below_p xp.low) (low_elements w _ j.origin.0 (elements w j.list.0) f.low_list xd.low) (low_elements w _ j.origin.0 (elements_in right) below_q xq.low);
-        trees = a.trees _ (low_elements w _ j.origin.0 (trees_in left) below_p xp.low_trees) (low_elements w _ j.origin.0 (trees_in right) below_q xq.low_trees);
+        elements = a.elements _ (lower w _ j.origin.0 (elements_in left) below_p xp.low) (lower w _ j.origin.0 (elements w j.list.0) f.low_list xd.low) (lower w _ j.origin.0 (elements_in right) below_q xq.low);
+        trees = a.trees _ (lower w _ j.origin.0 (trees_in left) below_p xp.low_trees) (lower w _ j.origin.0 (trees_in right) below_q xq.low_trees);
         nodes = rw a.bare.0 tt;
         inner = rw a.bare.1 tt;
       };

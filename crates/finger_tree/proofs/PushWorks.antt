@@ -139,10 +139,6 @@ waited law s p e = let f = push_facts law s p e in record { sort = f.tree.sort; 
 
 -- ---- the level that it makes
 
-pub low_elements : (w : World) (m o : ℕ) (es : List ℕ) → m < o → AllByRecursion (λ e. height (recs w) e ≤ m) es → AllByRecursion (λ e. height (recs w) e < o) es
-low_elements w m o [] lt h = tt
-low_elements w m o (e ∷ es) lt h = (omega (arith, h.0, lt), low_elements w m o es lt h.1)
-
 record LevelWell (w : World) (s : ℕ) (p : Push) (limit : ℕ) (made : Made) : Type 0 where
   parts : IsLevel w (level_from (level (recs w)) (suspended p)) limit made
   low : AreLow w p.origin.0 made
