@@ -53,7 +53,7 @@ use Rattle.heap_store.proofs.PutLaws.{fits_value, put_names}
 use Rattle.heap_store.proofs.RangeLaws.{range_from}
 use Rattle.heap_store.proofs.UnitLaws.{free}
 use Rattle.finger_level.specs.Reads.{is_tree_rec, is_tree_value}
-use Rattle.finger_level.specs.Keyed.{HasKeys, key_in}
+use Rattle.finger_level.specs.Keyed.{HasKeys, AreKeyed, key_in}
 use Rattle.finger_level.specs.Pushes.{push_all, beside, IsPushed}
 use Rattle.finger_level.specs.Puts.{IsElement, IsLevel, LevelAsk, LevelPut, Follows}
 use Rattle.finger_level.proofs.Levels.{under_level}
@@ -232,7 +232,7 @@ pushable {a} {c} {job} {run} {next} {leaf} k side kind op stage level m whole si
     follows (levels.One e) = tt
     follows (levels.Deep l m r) = tt
 
-pub push_ended : {a c n : View} {job : EventJob} {run next z : Span} {leaf : Ref} (side : Side) → job.base.kind ≡ kinds.Seq → pushes_at job.op side ≡ true → job.stage ≡ Start → Leafed a c job run next leaf → (level : Level) (whole : Weight) → whole.size ≡ job.base.size + 1 → whole.key.0 ≡ 0 → IsPushed c.seen side (pushes.One leaf) job.base.root.0 level → IsLawful n.seen → (root : Ref) → LevelPut c n next z First level root.0 → (HasKeys false c.seen job.base.root.0 → HasKeys false c.seen leaf.0 → whole.key.0 ≡ key_in false (items_of_made (means (recs c.seen)) (made_of level)) → HasKeys false n.seen root.0) → IsEventBuilt a n job run z (End root (job.base.size + 1) replies.Ok)
+pub push_ended : {a c n : View} {job : EventJob} {run next z : Span} {leaf : Ref} (side : Side) → job.base.kind ≡ kinds.Seq → pushes_at job.op side ≡ true → job.stage ≡ Start → Leafed a c job run next leaf → (level : Level) (whole : Weight) → whole.size ≡ job.base.size + 1 → whole.key.0 ≡ 0 → IsPushed c.seen side (pushes.One leaf) job.base.root.0 level → IsLawful n.seen → (root : Ref) → LevelPut c n next z First level root.0 → (HasKeys false c.seen job.base.root.0 → AreKeyed false c.seen (leaf.0 ∷ []) → whole.key.0 ≡ key_in false (items_of_made (means (recs c.seen)) (made_of level)) → HasKeys false n.seen root.0) → IsEventBuilt a n job run z (End root (job.base.size + 1) replies.Ok)
 push_ended {a} {c} {n} {job} {run} {next} {z} {leaf} side kind op stage k level whole size none m law3 root l made =
     let p = pushable k side kind op stage level m whole size in
     let g = l.filled.grows in
@@ -245,7 +245,7 @@ push_ended {a} {c} {n} {job} {run} {next} {z} {leaf} side kind op stage k level 
       spent = omega (arith, end, l.end, k.end_is);
       made = push_end law3 job side kind op b k.few root.0 l.value (l.of_level 0 p.parts)
           (l.items ∙ (p.items ∙ ap (beside side (job.arg ∷ [])) (means_kept (recs c.seen) (recs n.seen) (lawful_names k.law2) g.records job.base.root.0 (base.0, base.1))))
-          (made (base_up k.law k.filled.grows job.base k.given.base).keys (keyed_from k.law2 false leaf.0 _ k.here refl tt) none);
+          (made (base_up k.law k.filled.grows job.base k.given.base).keys (keyed_from k.law2 false leaf.0 _ k.here refl tt, tt) none);
       credits = (let due = (job_may job side kind op stage).1 in let count = ap bits (ap length p.items ∙ both_length side (job.arg ∷ []) (means (recs c.seen) job.base.root.0)) in let more = ap bits more_one in omega (arith, l.credits, k.credits, due, count, more));
     }
   where

@@ -32,6 +32,7 @@ use Rattle.finger_level.specs.declared.level.Level.{Level}
 use Rattle.finger_level.specs.declared.level.Level.TheVariants as levels
 use Rattle.finger_level.specs.declared.level.Side.{Side}
 use Rattle.finger_level.specs.declared.level.Side.TheVariants as sides
+use Rattle.finger_level.specs.declared.level.Pushed.{Pushed}
 use Rattle.finger_level.specs.declared.level.Pushed.TheVariants as pushes
 use Rattle.finger_level.specs.declared.level.Family.{Family}
 use Rattle.finger_level.specs.Few.{few_list}
@@ -159,7 +160,7 @@ near_small {v} sides.Right more middle far other family whole k =
 
 -- ---- after reads
 
-pub pushed_back : {a b n : View} {run z : Span} {side : Side} {e : Ref} {q : ℕ} {family : Family} {keyed : Bool} {whole : Weight} {place : ℕ} → Quiet a b → PushedPut b n run z side e q family keyed whole place → PushedPut a n run z side e q family keyed whole place
+pub pushed_back : {a b n : View} {run z : Span} {side : Side} {es : Pushed} {q : ℕ} {family : Family} {keyed : Bool} {whole : Weight} {place : ℕ} → Quiet a b → PushedPut b n run z side es q family keyed whole place → PushedPut a n run z side es q family keyed whole place
 pushed_back q p = record { then_view = p.then_view; quiet = Quiet_trans q p.quiet; law = p.law; level = p.level; pushed = p.pushed; put = p.put; keys = p.keys }
 
 -- what a digit and an element weigh

@@ -46,7 +46,7 @@ pub mod reads;
 pub use concat::concat_level;
 pub use few::{Few, Group, WeighedFew, Weight};
 pub use level::{Digit, Family, Level, Middle, NodeRow, Nodes, Pushed, Side, places};
-pub use near_pushes::put_pushed;
+pub use near_pushes::{put_pushed, put_pushes};
 pub use pops::{Popped, drawn_level, popped_level};
 pub use pushes::{pushed_level, pushed_places};
 pub use puts::{put_few, put_level};

@@ -1,9 +1,11 @@
-//! A value with one element pushed onto an end is put. Where the digit at that end has room, only the root and that digit are read.
+//! A value with elements pushed onto an end is put. Of one element, where the digit at that end has room, only the root and that digit
+//! are read.
 ghost use Rattle.std.specs.Prelude.{◌≡◌, ◌≤◌, ◌+◌, ◌∷◌, [], Some, max, true, cond};
+ghost use Rattle.std.specs.List.{AllByRecursion};
 ghost use Rattle.heap_store.specs.World.{recs, holds};
 ghost use Rattle.finger_level.specs.Few.{few_list};
 ghost use Rattle.finger_level.specs.Reads.{is_element, is_tree_value, IsWeight};
-ghost use Rattle.finger_level.specs.Pushes.{beside};
+ghost use Rattle.finger_level.specs.Pushes.{pushed_list, beside};
 ghost use Rattle.finger_level.specs.NearPushes.{PushedAsk, PushedPut};
 
 use crate::few::{Few, Weight};
@@ -12,7 +14,7 @@ use crate::near_puts::put_near;
 use crate::pops::both_ends;
 use crate::pushes::pushed_level;
 use crate::puts::put_level;
-use crate::reads::read_weighed;
+use crate::reads::{read_weighed, weigh};
 use heap_store::{Heap, Run};
 use lazy_rec::{Item, Rec, Ref};
 
@@ -31,8 +33,8 @@ pub fn put_pushed<H: Heap>(
     requires value { holds (recs (H.view h.old).seen) root.0 is_tree_value ≡ true }
     requires element { holds (recs (H.view h.old).seen) e.0 is_element ≡ true }
     requires weight { IsWeight (H.view h.old).seen e.0 own }
-    requires ask { PushedAsk (H.view h.old) run.old side e root.0 family whole }
-    ensures { PushedPut (H.view h.old) (H.view h.new) run.old run.new side e root.0 family keyed whole result.0 }
+    requires ask { PushedAsk (H.view h.old) run.old side (Pushed.One e) root.0 family whole }
+    ensures { PushedPut (H.view h.old) (H.view h.new) run.old run.new side (Pushed.One e) root.0 family keyed whole result.0 }
 {
     let Rec::Deep {
         left,
@@ -41,24 +43,22 @@ pub fn put_pushed<H: Heap>(
         ..
     } = h.read(root)
     else {
-        return put_whole(h, side, e, root, whole, family, keyed, run);
+        return put_whole(h, side, Pushed::One(e), root, whole, family, keyed, run);
     };
     let (near, far) = both_ends(side, left, right);
     let digit = read_weighed(h, near);
     let Some(few) = longer(side, e, digit.few) else {
-        return put_whole(h, side, e, root, whole, family, keyed, run);
+        return put_whole(h, side, Pushed::One(e), root, whole, family, keyed, run);
     };
     let weight = weigh_both(digit.weight, own, keyed);
     put_near(h, side, few, weight, middle, far, whole, run)
 }
 
-/// The same by the whole level that the push makes: of no or one element, or where the digit overflows.
-#[cold]
-#[inline(never)]
-fn put_whole<H: Heap>(
+/// The same of one or two elements, which are weighed: a suspended push.
+pub fn put_pushes<H: Heap>(
     h: &mut H,
     side: Side,
-    e: Ref,
+    es: Pushed,
     root: Ref,
     whole: Weight,
     family: Family,
@@ -66,10 +66,36 @@ fn put_whole<H: Heap>(
     run: &mut Run,
 ) -> Ref
     requires value { holds (recs (H.view h.old).seen) root.0 is_tree_value ≡ true }
-    requires ask { PushedAsk (H.view h.old) run.old side e root.0 family whole }
-    ensures { PushedPut (H.view h.old) (H.view h.new) run.old run.new side e root.0 family keyed whole result.0 }
+    requires elements { AllByRecursion (λ e. holds (recs (H.view h.old).seen) e is_element ≡ true) (pushed_list es) }
+    requires ask { PushedAsk (H.view h.old) run.old side es root.0 family whole }
+    ensures { PushedPut (H.view h.old) (H.view h.new) run.old run.new side es root.0 family keyed whole result.0 }
 {
-    let level = pushed_level(h, side, Pushed::One(e), root);
+    match es {
+        Pushed::One(e) => {
+            let own = weigh(h, e);
+            put_pushed(h, side, e, own, root, whole, family, keyed, run)
+        }
+        Pushed::Two(_, _) => put_whole(h, side, es, root, whole, family, keyed, run),
+    }
+}
+
+/// The same by the whole level that the push makes: of two elements, of a tree of no or one element, or where the digit overflows.
+#[inline(never)]
+fn put_whole<H: Heap>(
+    h: &mut H,
+    side: Side,
+    es: Pushed,
+    root: Ref,
+    whole: Weight,
+    family: Family,
+    keyed: bool,
+    run: &mut Run,
+) -> Ref
+    requires value { holds (recs (H.view h.old).seen) root.0 is_tree_value ≡ true }
+    requires ask { PushedAsk (H.view h.old) run.old side es root.0 family whole }
+    ensures { PushedPut (H.view h.old) (H.view h.new) run.old run.new side es root.0 family keyed whole result.0 }
+{
+    let level = pushed_level(h, side, es, root);
     put_level(h, level, whole, family, keyed, run)
 }
 

@@ -1,5 +1,5 @@
 -- Suspended pushes: what their records say, and the level that they make.
-use Rattle.std.proofs.Common.{◌≡◌, ℕ, ◌+◌, ◌<◌, ◌≤◌, ltb, refl, sym, ap, ◌∙◌, arith, true, Some, None, List, [], ◌∷◌, length}
+use Rattle.std.proofs.Common.{◌≡◌, Bool, ℕ, ◌+◌, ◌<◌, ◌≤◌, ltb, refl, sym, ap, ◌∙◌, arith, true, Some, None, List, [], ◌∷◌, length}
 use Rattle.std.specs.Prelude.{flat_map, option_and_then}
 use Rattle.std.specs.List.{AllByRecursion, list_all}
 use Rattle.std.proofs.lemmas.Bool.{and_parts, ltb-true}
@@ -22,6 +22,7 @@ use Rattle.finger_level.specs.declared.level.Side.{Side}
 use Rattle.finger_level.specs.declared.level.Side.TheVariants as sides
 use Rattle.finger_level.specs.declared.level.Pushed.{Pushed}
 use Rattle.finger_level.specs.declared.level.Pushed.TheVariants as pushes
+use Rattle.finger_level.specs.Keyed.{HasKeys, AreKeyed, key_in}
 use Rattle.finger_level.specs.Level.{elements_in, trees_in, items_of_made, made_of, kept_of}
 use Rattle.finger_level.specs.Reads.{is_tree_rec, cached_size}
 use Rattle.finger_level.specs.Puts.{IsElement, IsTree, IsLevel, push_record}
@@ -39,7 +40,7 @@ use Rattle.finger_level.proofs.Pushing.{push_level, push_means, push_tree}
 use Rattle.finger_level.proofs.Tops.{top_well, rest_open, push_all_well}
 use Rattle.finger_tree.specs.declared.push.Push.{Push}
 use Rattle.finger_tree.specs.Work.{kept_by, shown_by, suspended}
-use Rattle.finger_tree.proofs.Works.{Shape, Waited, Makes, shown_at, value_there}
+use Rattle.finger_tree.proofs.Works.{Shape, Waited, Makes, KeysMade, shown_at, value_there}
 
 -- ---- a suspended push in the world
 
@@ -171,10 +172,23 @@ level_well {w} law s q limit p before e k shows free s_low q_low =
       items = items;
     }
 
+-- the keys of what it needs
+pub push_keys : {w : World} → IsLawful w → (s q : ℕ) (p : Push) → recs w s ≡ Some (suspended p) → IsValueAt w p.tree.0 q → (j : Bool) → HasKeys j w s → HasKeys j w q × AreKeyed j w (pushed_list p.es)
+push_keys {w} law s q p e k j h =
+    let tree = at_true is_tree_rec (recs w p.tree.0) (push_facts law s p e).tree.sort in
+    let x = push_keys_of law j s p.side p.tree p.es p.origin p.off p.weight e h in
+    (value_keyed law j p.tree.0 q tree.0 tree.1 tree.2 k.found x.tree, x.each)
+
+-- and of what is put
+pub push_keyed : {a : World} → IsLawful a → (b : World) (s q : ℕ) (p : Push) (made_level : Level) → recs a s ≡ Some (suspended p) → IsValueAt a p.tree.0 q → Makes a s (suspended p) q p.origin p.weight made_level → (place : ℕ) → (HasKeys (ltb 0 p.weight.key.0) a q → AreKeyed (ltb 0 p.weight.key.0) a (pushed_list p.es) → p.weight.key.0 ≡ key_in (ltb 0 p.weight.key.0) (items_of_made (means (recs a)) (made_of made_level)) → HasKeys (ltb 0 p.weight.key.0) b place) → KeysMade a b p.weight s place
+push_keyed law b s q p made_level e k m place keys h =
+    let j = ltb 0 p.weight.key.0 in
+    let x = push_keys law s q p e k j h in
+    keys x.0 x.1 (m.key j h ∙ ap (key_in j) (sym m.items))
+
 pub push_works : {w : World} → IsLawful w → (s q : ℕ) (p : Push) (made_level : Level) → recs w s ≡ Some (suspended p) → IsValueAt w p.tree.0 q → IsPushed w p.side p.es q made_level → Makes w s (suspended p) q p.origin p.weight made_level
 push_works {w} law s q p made_level e k m =
     let f = push_facts law s p e in
-    let tree = at_true is_tree_rec (recs w p.tree.0) f.tree.sort in
     let shown = shown_at p.tree.0 q _ k m.read.made in
     let well : (limit : ℕ) → s < limit → q < limit → LevelWell w s p limit (made_of made_level) = λ limit sl ql. rw m.made (level_well law s q limit p (made_of m.before) e k m.read.made (rest_open m.before m.read.rests) sl ql) in
     let here = well (s + q + 1) (omega arith) (omega arith) in
@@ -191,6 +205,6 @@ push_works {w} law s q p made_level e k m =
       low = here.low;
       items = here.items;
       counts = f.counts;
-      keyed = λ j h. (let x = push_keys_of law j s p.side p.tree p.es p.origin p.off p.weight e h in m.keyed j (value_keyed law j p.tree.0 q tree.0 tree.1 tree.2 k.found x.tree) x.each);
+      keyed = λ j h. (let x = push_keys law s q p e k j h in m.keyed j x.0 x.1);
       key = λ j h. (push_keys_of law j s p.side p.tree p.es p.origin p.off p.weight e h).key_is;
     }

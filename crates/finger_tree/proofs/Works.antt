@@ -305,14 +305,18 @@ value_cells f (DeepR _ _ _ _ _ _) h = refl
 value_cells f (Concat _ _ _ _ _ _ _) h = refl
 value_cells f r h = absurd (true≢false (sym h))
 
--- what the put of the level makes of keys
-abbrev pub KeysMade : View → View → Weight → Level → ℕ → Type 0
-KeysMade v n weight made_level place = KeyedLevel (ltb 0 weight.key.0) v.seen made_level → weight.key.0 ≡ key_in (ltb 0 weight.key.0) (items_of_made (means (recs v.seen)) (made_of made_level)) → HasKeys (ltb 0 weight.key.0) n.seen place
+-- the keys of the work are those of what was put
+abbrev pub KeysMade : World → World → Weight → ℕ → ℕ → Type 0
+KeysMade a b weight s place = HasKeys (ltb 0 weight.key.0) a s → HasKeys (ltb 0 weight.key.0) b place
+
+-- where the level was put whole
+pub level_keys : {a : World} (b : World) {s q : ℕ} {r : Rec} {o : Ref} {weight : Weight} {made_level : Level} (place : ℕ) → Makes a s r q o weight made_level → (KeyedLevel (ltb 0 weight.key.0) a made_level → weight.key.0 ≡ key_in (ltb 0 weight.key.0) (items_of_made (means (recs a)) (made_of made_level)) → HasKeys (ltb 0 weight.key.0) b place) → KeysMade a b weight s place
+level_keys b {weight = weight} place m keys h = let k = ltb 0 weight.key.0 in keys (m.keyed k h) (m.key k h ∙ ap (key_in k) (sym m.items))
 
 of_tree_rec : (r : Rec) → is_tree_rec r ≡ true → is_of_tree r ≡ true
 of_tree_rec r h = or_right (same_sort (sort_of r) sorts.Element) _ (or_right (same_sort (sort_of r) sorts.Digit) _ h)
 
-module _ {v n : View} {run z : Span} {r : Rec} {waited : List ℕ} {off : ℕ} {o : Ref} {weight : Weight} (shape : Shape r waited o off weight.key.0) (law : IsLawful v.seen) (law2 : IsLawful n.seen) (s : Ref) (q : ℕ) (made_level : Level) (place : ℕ) (m : Makes v.seen s.0 r q o weight made_level) (l : LevelPut v n run z (Later s o off) made_level place) (keys_made : KeysMade v n weight made_level place) where
+module _ {v n : View} {run z : Span} {r : Rec} {waited : List ℕ} {off : ℕ} {o : Ref} {weight : Weight} (shape : Shape r waited o off weight.key.0) (law : IsLawful v.seen) (law2 : IsLawful n.seen) (s : Ref) (q : ℕ) (made_level : Level) (place : ℕ) (m : Makes v.seen s.0 r q o weight made_level) (l : LevelPut v n run z (Later s o off) made_level place) (keys_made : KeysMade v.seen n.seen weight s.0 place) where
   work_sort : sort_of r ≡ sorts.Finger
   work_sort = sorts_agree (sort_of r) sorts.Finger shape.tree
 
@@ -326,8 +330,7 @@ module _ {v n : View} {run z : Span} {r : Rec} {waited : List ℕ} {off : ℕ} {
       let t = at_true is_tree_value (recs n.seen place) l.value in
       let tv = and_parts (not (is_pending t.0)) (is_tree_rec t.0) t.2 in
       each_kind law2 s.0 place r t.0 weight.key.0 (g.records s.0 _ m.here) t.1 (of_tree_rec r shape.tree) (of_tree_rec t.0 tv.1) shape.key_is same_means (λ h. (
-      let before : HasKeys (ltb 0 weight.key.0) v.seen s.0 = keys_kept (recs v.seen) (recs n.seen) (lawful_names law) g.records (way (ltb 0 weight.key.0)) s.0 (r, m.here) ∙ h in
-      keys_made (m.keyed (ltb 0 weight.key.0) before) (m.key (ltb 0 weight.key.0) before ∙ ap (key_in (ltb 0 weight.key.0)) (sym m.items))))
+      keys_made (keys_kept (recs v.seen) (recs n.seen) (lawful_names law) g.records (way (ltb 0 weight.key.0)) s.0 (r, m.here) ∙ h)))
 
   all_known : (ps : List ℕ) → AllByRecursion (λ p. is_value v.seen p ≡ true) ps → list_all (is_value n.seen) ps ≡ true
   all_known [] h = refl

@@ -6,7 +6,7 @@ ghost use Rattle.heap_store.specs.View.{Quiet};
 ghost use Rattle.heap_store.specs.Jobs.{cursor_fits, Prepared, IsBuildable, IsBuilt};
 ghost use Rattle.finger_tree.specs.Work.{is_push, is_finger_work, pushed_at, suspended, LevelTold};
 
-use finger_level::{Family, Pushed, Side, Weight, places, pushed_level, put_level};
+use finger_level::{Family, Pushed, Side, Weight, places, pushed_level, put_pushes};
 use heap_store::{Built, Cursor, Heap, Prep, Run, value_place};
 use lazy_rec::{Rec, Ref};
 
@@ -107,13 +107,21 @@ pub fn build<H: Heap>(rec: &Rec, h: &mut H, s: Ref, cursor: &Cursor, run: &mut R
     let push = push_of(rec);
     match value_place(h, push.tree) {
         Some(q) => {
-            let level = pushed_level(h, push.side, push.es, q);
             let family = Family::Later {
                 of: s,
                 origin: push.origin,
                 off: push.off,
             };
-            let place = put_level(h, level, push.weight, family, push.weight.key.0 > 0, run);
+            let place = put_pushes(
+                h,
+                push.side,
+                push.es,
+                q,
+                push.weight,
+                family,
+                push.weight.key.0 > 0,
+                run,
+            );
             Built { place, steps: 1 }
         }
         None => unreachable!(),

@@ -120,6 +120,6 @@ returns g c =
           let a = (keyed_of law j c.args.root.0 _ (now g d) root).all in
           let k = end_keys w j c.in-Deep.left c.in-Deep.right c.args.side c.both_ends.result.0 c.both_ends.result.1 c.both_ends.ensures a.0 a.1.1.0 in
           let few = digit_keys law j c.both_ends.result.0.0 c.read_weighed-digit.result.few (digit g d).shown k.0 in
-          let key = more_key c.args.side j c.read_weighed-digit.result.weight.key.0 c.args.own.key.0 _ (means (recs w) c.args.e.0) (flat_map (means (recs w)) es) c.weigh_both-weight.ensures.key ((digit g d).key j k.0) (λ is. (element g d).key ∙ element_keyed law c.args.e.0 (there_later (quiet g d).grows is_element c.args.e.0 c.requires.element) (rw is at own)) in
-          c.put_near.ensures.keys j (more_keyed w j c.args.side c.args.e.0 es (few_list c.in-Some.few) (c.in-Some.ensures c.in-Some.few refl) own few) (key ∙ ap (key_in j) (sym (more_items (means (recs w)) c.args.side c.args.e.0 es (few_list c.in-Some.few) (c.in-Some.ensures c.in-Some.few refl)))) a.1.0 k.1 (whole ∙ ap (key_in j) (sym put.items)));
+          let key = more_key c.args.side j c.read_weighed-digit.result.weight.key.0 c.args.own.key.0 _ (means (recs w) c.args.e.0) (flat_map (means (recs w)) es) c.weigh_both-weight.ensures.key ((digit g d).key j k.0) (λ is. (element g d).key ∙ element_keyed law c.args.e.0 (there_later (quiet g d).grows is_element c.args.e.0 c.requires.element) (rw is at own.0)) in
+          c.put_near.ensures.keys j (more_keyed w j c.args.side c.args.e.0 es (few_list c.in-Some.few) (c.in-Some.ensures c.in-Some.few refl) own.0 few) (key ∙ ap (key_in j) (sym (more_items (means (recs w)) c.args.side c.args.e.0 es (few_list c.in-Some.few) (c.in-Some.ensures c.in-Some.few refl)))) a.1.0 k.1 (whole ∙ ap (key_in j) (sym put.items)));
     }

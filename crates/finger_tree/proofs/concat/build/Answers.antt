@@ -7,7 +7,7 @@ use Rattle.heap_store.proofs.ValueLaws.{place_waits}
 use Rattle.heap_store.proofs.ReadLaws.{is_there}
 use Rattle.finger_level.proofs.Found.{IsValueAt, value_tree}
 use Rattle.finger_tree.specs.Work.{joining}
-use Rattle.finger_tree.proofs.Works.{Makes, BuildFacts, build_facts, work_ask, work_built, value_done_not, waited_there, value_up_at}
+use Rattle.finger_tree.proofs.Works.{Makes, BuildFacts, build_facts, work_ask, level_keys, work_built, value_done_not, waited_there, value_up_at}
 use Rattle.finger_tree.proofs.ConcatWorks.{shape, waited, join_works, join_facts}
 use Rattle.finger_tree.proofs.concat.build.Goals as goal
 use Rattle.finger_tree.proofs.concat.build.Goals.{After-join_of-join, After-concat_level-level}
@@ -98,4 +98,4 @@ returns g c =
     let f = facts g d in
     let x = f.value_low.0 c.in-Some.p.0 (left_at g d) in
     let y = f.value_low.1.0 c.in-Some-value_place.q.0 (right_at g d) in
-    work_built (shape c.join_of-join.result) (g.met.H.Heap.lawful c.concat_level-level.new.h).world (g.met.H.Heap.lawful c.put_level-place.new.h).world c.args.s (max c.in-Some.p.0 c.in-Some-value_place.q.0) c.concat_level-level.result c.put_level-place.result.0 (works g d) c.put_level-place.ensures.put c.put_level-place.ensures.keys (quiet g d) f (omega (arith, x, y))
+    work_built (shape c.join_of-join.result) (g.met.H.Heap.lawful c.concat_level-level.new.h).world (g.met.H.Heap.lawful c.put_level-place.new.h).world c.args.s (max c.in-Some.p.0 c.in-Some-value_place.q.0) c.concat_level-level.result c.put_level-place.result.0 (works g d) c.put_level-place.ensures.put (level_keys (g.H.Heap.view c.put_level-place.new.h).seen c.put_level-place.result.0 (works g d) c.put_level-place.ensures.keys) (quiet g d) f (omega (arith, x, y))

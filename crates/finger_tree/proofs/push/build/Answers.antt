@@ -1,15 +1,18 @@
-use Rattle.std.proofs.Common.{◌≡◌, ◌∙◌, ap, Some, [], ◌∷◌}
+use Rattle.std.proofs.Common.{◌≡◌, ◌<◌, ◌∙◌, ap, Some, [], ◌∷◌}
 use Rattle.heap_store.specs.World.{recs}
-use Rattle.heap_store.specs.View.{Quiet}
+use Rattle.heap_store.specs.Lawful.{IsLawful}
+use Rattle.heap_store.specs.View.{View, Quiet}
 use Rattle.heap_store.proofs.Steps.{Quiet_trans}
 use Rattle.heap_store.proofs.ValueLaws.{place_waits}
 use Rattle.heap_store.proofs.ReadLaws.{is_there}
+use Rattle.finger_level.specs.Pushes.{pushed_list}
 use Rattle.finger_level.proofs.Found.{IsValueAt, value_tree}
+use Rattle.finger_level.proofs.Weighing.{sorts_of_elements}
 use Rattle.finger_tree.specs.Work.{suspended}
-use Rattle.finger_tree.proofs.Works.{Makes, BuildFacts, build_facts, work_ask, work_built, value_done_not, waited_there, value_up_at}
-use Rattle.finger_tree.proofs.PushWorks.{shape, waited, push_works}
+use Rattle.finger_tree.proofs.Works.{BuildFacts, build_facts, work_ask, work_built, value_done_not, waited_there, value_up_at}
+use Rattle.finger_tree.proofs.PushWorks.{shape, waited, push_facts, push_keyed, push_works}
 use Rattle.finger_tree.proofs.push.build.Goals as goal
-use Rattle.finger_tree.proofs.push.build.Goals.{After-push_of-push, After-pushed_level-level}
+use Rattle.finger_tree.proofs.push.build.Goals.{After-push_of-push, In-Some}
 
 pub push_of-push-requires-clause-range : goal.push_of-push-requires-clause-range
 push_of-push-requires-clause-range g c = ((g.met.H.Heap.lawful c.args.h.now).world.each c.args.s.0 _ c.requires.rec).range
@@ -20,32 +23,42 @@ here g c = c.requires.rec ∙ ap Some c.push_of-push.ensures
 pub value_place-requires : goal.value_place-requires
 value_place-requires g c = is_there (recs (g.H.Heap.view c.args.h.now).seen) c.push_of-push.result.tree.0 (waited_there (waited (g.met.H.Heap.lawful c.args.h.now).world c.args.s.0 c.push_of-push.result (here g (goal.at.value_place-requires g c).After-push_of-push)))
 
-pub pushed_level-level-requires : goal.pushed_level-level-requires
-pushed_level-level-requires g c =
-    let law1 = (g.met.H.Heap.lawful c.value_place.new.h).world in
-    let e = c.value_place.ensures.quiet.grows.records _ _ (here g (goal.at.pushed_level-level-requires g c).After-push_of-push) in
-    (value_tree law1 c.push_of-push.result.tree.0 c.in-Some.q.0 (waited law1 c.args.s.0 c.push_of-push.result e).sort c.in-Some.ensures.place).there
-
--- what was read shows the same
-quiet : (g : _) (c : After-pushed_level-level g) → Quiet (g.H.Heap.view c.args.h.now) (g.H.Heap.view c.pushed_level-level.new.h)
-quiet g c = Quiet_trans c.value_place.ensures.quiet c.pushed_level-level.ensures.quiet
-
-value_at_q : (g : _) (c : After-pushed_level-level g) → IsValueAt (g.H.Heap.view c.pushed_level-level.new.h).seen c.push_of-push.result.tree.0 c.in-Some.q.0
-value_at_q g c =
+-- the tree's value was found
+found : (g : _) (c : In-Some g) → IsValueAt (g.H.Heap.view c.value_place.new.h).seen c.push_of-push.result.tree.0 c.in-Some.q.0
+found g c =
     let law1 = (g.met.H.Heap.lawful c.value_place.new.h).world in
     let e = c.value_place.ensures.quiet.grows.records _ _ (c.requires.rec ∙ ap Some c.push_of-push.ensures) in
-    let w = waited law1 c.args.s.0 c.push_of-push.result e in
-    value_up_at law1 c.pushed_level-level.ensures.quiet.grows c.push_of-push.result.tree.0 c.in-Some.q.0 (waited_there w) (value_tree law1 c.push_of-push.result.tree.0 c.in-Some.q.0 w.sort c.in-Some.ensures.place)
+    value_tree law1 c.push_of-push.result.tree.0 c.in-Some.q.0 (waited law1 c.args.s.0 c.push_of-push.result e).sort c.in-Some.ensures.place
 
--- the level that it makes
-works : (g : _) (c : After-pushed_level-level g) → Makes (g.H.Heap.view c.pushed_level-level.new.h).seen c.args.s.0 (suspended c.push_of-push.result) c.in-Some.q.0 c.push_of-push.result.origin c.push_of-push.result.weight c.pushed_level-level.result
-works g c = push_works (g.met.H.Heap.lawful c.pushed_level-level.new.h).world c.args.s.0 c.in-Some.q.0 c.push_of-push.result c.pushed_level-level.result ((quiet g c).grows.records _ _ (c.requires.rec ∙ ap Some c.push_of-push.ensures)) (value_at_q g c) c.pushed_level-level.ensures.pushed
+-- whatever is read then
+record Later (g : _) (c : In-Some g) (v : View) : Type 1 where
+  quiet : Quiet (g.H.Heap.view c.args.h.now) v
+  here : recs v.seen c.args.s.0 ≡ Some (suspended c.push_of-push.result)
+  value : IsValueAt v.seen c.push_of-push.result.tree.0 c.in-Some.q.0
+  facts : BuildFacts v c.args.run.now c.args.s (suspended c.push_of-push.result) (c.push_of-push.result.tree.0 ∷ [])
+  low : c.in-Some.q.0 < c.args.run.now.next
 
-facts : (g : _) (c : After-pushed_level-level g) → BuildFacts (g.H.Heap.view c.pushed_level-level.new.h) c.args.run.now c.args.s (suspended c.push_of-push.result) (c.push_of-push.result.tree.0 ∷ [])
-facts g c = build_facts (quiet g c) (g.met.H.Heap.lawful c.pushed_level-level.new.h).world c.requires.build (shape c.push_of-push.result) (c.requires.rec ∙ ap Some c.push_of-push.ensures) (λ w law e. (waited law c.args.s.0 c.push_of-push.result e, tt))
+later : (g : _) (c : In-Some g) → (v : View) → Quiet (g.H.Heap.view c.value_place.new.h) v → IsLawful v.seen → Later g c v
+later g c v q law =
+    let law1 = (g.met.H.Heap.lawful c.value_place.new.h).world in
+    let e = c.requires.rec ∙ ap Some c.push_of-push.ensures in
+    let all = Quiet_trans c.value_place.ensures.quiet q in
+    let w = waited law1 c.args.s.0 c.push_of-push.result (c.value_place.ensures.quiet.grows.records _ _ e) in
+    let value = value_up_at law1 q.grows c.push_of-push.result.tree.0 c.in-Some.q.0 (waited_there w) (found g c) in
+    let facts = build_facts all law c.requires.build (shape c.push_of-push.result) e (λ w law e. (waited law c.args.s.0 c.push_of-push.result e, tt)) in
+    record { quiet = all; here = all.grows.records _ _ e; value = value; facts = facts; low = facts.value_low.0 c.in-Some.q.0 value }
 
-pub put_level-place-requires : goal.put_level-place-requires
-put_level-place-requires g c = let d = (goal.at.put_level-place-requires g c).After-pushed_level-level in work_ask (shape c.push_of-push.result) c.args.s c.in-Some.q.0 c.push_of-push.result.weight c.pushed_level-level.result (works g d) (facts g d) ((facts g d).value_low.0 c.in-Some.q.0 (value_at_q g d))
+pub put_pushes-place-requires : goal.put_pushes-place-requires
+put_pushes-place-requires g c =
+    let d = (goal.at.put_pushes-place-requires g c).In-Some in
+    let law1 = (g.met.H.Heap.lawful c.value_place.new.h).world in
+    let e = c.value_place.ensures.quiet.grows.records _ _ (c.requires.rec ∙ ap Some c.push_of-push.ensures) in
+    let f = push_facts law1 c.args.s.0 c.push_of-push.result e in
+    record {
+      value = (found g d).there;
+      elements = sorts_of_elements law1 _ c.args.s.0 (pushed_list c.push_of-push.result.es) f.each;
+      ask = λ v q law level m. (let l = later g d v q law in work_ask (shape c.push_of-push.result) c.args.s c.in-Some.q.0 c.push_of-push.result.weight level (push_works law c.args.s.0 c.in-Some.q.0 c.push_of-push.result level l.here l.value m) l.facts l.low);
+    }
 
 pub unreachable-requires : goal.unreachable-requires
 unreachable-requires g c =
@@ -56,5 +69,7 @@ unreachable-requires g c =
 
 pub returns : goal.returns
 returns g c =
-    let d = (goal.at.returns g c).After-pushed_level-level in
-    work_built (shape c.push_of-push.result) (g.met.H.Heap.lawful c.pushed_level-level.new.h).world (g.met.H.Heap.lawful c.put_level-place.new.h).world c.args.s c.in-Some.q.0 c.pushed_level-level.result c.put_level-place.result.0 (works g d) c.put_level-place.ensures.put c.put_level-place.ensures.keys (quiet g d) (facts g d) ((facts g d).value_low.0 c.in-Some.q.0 (value_at_q g d))
+    let p = c.put_pushes-place.ensures in
+    let l = later g (goal.at.returns g c).In-Some p.then_view p.quiet p.law in
+    let works = push_works p.law c.args.s.0 c.in-Some.q.0 c.push_of-push.result p.level l.here l.value p.pushed in
+    work_built (shape c.push_of-push.result) p.law (g.met.H.Heap.lawful c.put_pushes-place.new.h).world c.args.s c.in-Some.q.0 p.level c.put_pushes-place.result.0 works p.put (push_keyed p.law (g.H.Heap.view c.put_pushes-place.new.h).seen c.args.s.0 c.in-Some.q.0 c.push_of-push.result p.level l.here l.value works c.put_pushes-place.result.0 p.keys) l.quiet l.facts l.low

@@ -6,7 +6,7 @@ use Rattle.heap_store.proofs.ValueLaws.{place_waits}
 use Rattle.heap_store.proofs.ReadLaws.{is_there}
 use Rattle.finger_level.proofs.Found.{IsValueAt, value_tree}
 use Rattle.finger_tree.specs.Work.{hanging}
-use Rattle.finger_tree.proofs.Works.{Makes, BuildFacts, build_facts, work_ask, work_built, value_done_not, waited_there, value_up_at}
+use Rattle.finger_tree.proofs.Works.{Makes, BuildFacts, build_facts, work_ask, level_keys, work_built, value_done_not, waited_there, value_up_at}
 use Rattle.finger_tree.proofs.TailWorks.{shape, waited, tail_works, tail_facts, upper}
 use Rattle.finger_tree.proofs.tail.build.Goals as goal
 use Rattle.finger_tree.proofs.tail.build.Goals.{After-tail_of-tail, After-drawn_level-level}
@@ -55,4 +55,4 @@ unreachable-requires g c =
 pub returns : goal.returns
 returns g c =
     let d = (goal.at.returns g c).After-drawn_level-level in
-    work_built (shape c.tail_of-tail.result) (g.met.H.Heap.lawful c.drawn_level-level.new.h).world (g.met.H.Heap.lawful c.put_level-place.new.h).world c.args.s c.in-Some.q.0 c.drawn_level-level.result c.put_level-place.result.0 (works g d) c.put_level-place.ensures.put c.put_level-place.ensures.keys (quiet g d) (facts g d) ((facts g d).value_low.0 c.in-Some.q.0 (value_at_q g d))
+    work_built (shape c.tail_of-tail.result) (g.met.H.Heap.lawful c.drawn_level-level.new.h).world (g.met.H.Heap.lawful c.put_level-place.new.h).world c.args.s c.in-Some.q.0 c.drawn_level-level.result c.put_level-place.result.0 (works g d) c.put_level-place.ensures.put (level_keys (g.H.Heap.view c.put_level-place.new.h).seen c.put_level-place.result.0 (works g d) c.put_level-place.ensures.keys) (quiet g d) (facts g d) ((facts g d).value_low.0 c.in-Some.q.0 (value_at_q g d))
