@@ -87,13 +87,6 @@ base_up {a} {b} law g v k =
       most = k.most;
     }
 
--- a value shows a level
-pub level_shown : {w : World} → IsLawful w → (q : ℕ) (r : Rec) → recs w q ≡ Some r → is_tree_value r ≡ true → (m : Made) × (shown_at w q ≡ Some m)
-level_shown law q TEmpty e h = (top.empty, rw e refl)
-level_shown law q (Single x z k) e h = (top.one x.0, rw e refl)
-level_shown {w} law q (Deep l m r z k) e h = (top.deep (elements w l.0) (top.tree (Some m.0)) (elements w r.0), rw e refl)
-level_shown law q _ e h = absurd (true≢false (sym h))
-
 pub shown_up : {a c : World} → NamesWell (recs a) → Grows a c → (q : ℕ) (m : Made) (r : Rec) → recs a q ≡ Some r → shown_at a q ≡ Some m → shown_at c q ≡ Some m
 shown_up {a} {c} names g q m r e h = rw (g.records q r e) (sym (level_up a c names g q r e) ∙ (rw e at h))
 

@@ -1,6 +1,8 @@
 -- What a pop of an end of a sequence needs, and what it makes.
 use Rattle.std.proofs.Common.{◌≡◌, ℕ, zero, suc, ◌+◌, ◌-◌, ◌<◌, ◌≤◌, eqb, refl, sym, ap, ◌∙◌, arith, subst, Bool, true, false, not, ◌&&◌, ◌||◌, Option, Some, None, List, [], ◌∷◌, ◌++◌, length}
-use Rattle.std.specs.Prelude.{cond}
+use Rattle.std.specs.Prelude.{cond, flat_map}
+use Rattle.std.specs.List.{AllByRecursion}
+use Rattle.std.proofs.lemmas.List.{length-append}
 use Rattle.std.proofs.lemmas.Bool.{true≢false, and_parts, and_from, or_left, or_right, eqb-true, eq-eqb}
 use Rattle.lazy_rec.specs.declared.places.Ref.{Ref}
 use Rattle.lazy_rec.specs.declared.records.Rec.{Rec}
@@ -16,6 +18,7 @@ use Rattle.lazy_rec.specs.Named.{sort_of, same_sort, is_pending}
 use Rattle.lazy_rec.specs.Meaning.{means}
 use Rattle.lazy_rec.specs.Numbers.{bits}
 use Rattle.lazy_rec.specs.Due.{may_force}
+use Rattle.heap_store.specs.declared.versions.Version.{Version}
 use Rattle.heap_store.specs.declared.jobs.EventJob.{EventJob}
 use Rattle.heap_store.specs.declared.jobs.After.{After}
 use Rattle.heap_store.specs.declared.jobs.After.TheVariants.{End}
@@ -33,34 +36,43 @@ use Rattle.heap_store.specs.Stages.{at_start, stage_due, stage_places, due_now, 
 use Rattle.heap_store.specs.View.{View, Quiet}
 use Rattle.heap_store.specs.Jobs.{may_seek, other_seeks, may_stage_seek, Filled, IsEventBuilt, IsEventNeed, EventPrepared, IsEnd, outcome, reaches, is_reached}
 use Rattle.heap_store.proofs.EventEnds.{built_same}
-use Rattle.heap_store.proofs.GrowthLaws.{at_true, grows_refl}
+use Rattle.heap_store.proofs.GrowthLaws.{at_true, grows_refl, sorts_agree}
 use Rattle.heap_store.proofs.LawfulLaws.{lawful_names, within}
 use Rattle.heap_store.proofs.MeaningLaws.{means_is, means_kept}
 use Rattle.heap_store.proofs.MadeLaws.{top_at_up}
 use Rattle.heap_store.proofs.ReadLaws.{holds_at}
 use Rattle.heap_store.proofs.ShowLaws.{one_value}
-use Rattle.heap_store.proofs.Steps.{quiet_Filled}
+use Rattle.heap_store.proofs.Steps.{Quiet_refl, quiet_Filled}
 use Rattle.heap_store.proofs.ValueLaws.{place_waits, value_place_is, value_self}
 use Rattle.heap_store.specs.Hand.{Hand}
+use Rattle.finger_level.specs.declared.few.Few.{Few}
+use Rattle.finger_level.specs.declared.few.Few.TheVariants as few
 use Rattle.finger_level.specs.declared.few.Weight.{Weight}
 use Rattle.finger_level.specs.declared.level.Level.{Level}
 use Rattle.finger_level.specs.declared.level.Level.TheVariants as levels
 use Rattle.finger_level.specs.declared.level.Side.{Side}
 use Rattle.finger_level.specs.declared.level.Side.TheVariants as sides
 use Rattle.finger_level.specs.declared.level.Family.TheVariants.{First}
-use Rattle.finger_level.specs.Level.{made_of, places_of, items_of_made}
-use Rattle.finger_level.specs.Reads.{is_tree_rec, is_tree_value}
+use Rattle.finger_level.specs.Few.{few_list}
+use Rattle.finger_level.specs.Level.{made_of, middle_items, places_of, items_of_made}
+use Rattle.finger_level.specs.Reads.{is_element, is_tree_rec, is_tree_value}
 use Rattle.finger_level.specs.Keyed.{HasKeys, KeyedLevel, key_in}
 use Rattle.finger_level.specs.Pushes.{beside}
 use Rattle.finger_level.specs.Puts.{IsElement, LevelAsk, LevelPut, Follows}
-use Rattle.finger_level.specs.Pops.{both_ends, is_single, drawn_places, drawn_middle, pop_places, IsFrom, IsRootAt, IsRest, IsToDraw, shown_at}
+use Rattle.finger_level.specs.Pops.{both_ends, is_single, drawn_places, drawn_middle, pop_places, IsFrom, IsRootAt, IsRest, IsToDraw, PopReady, PopPrepared, shown_at}
 use Rattle.finger_level.proofs.Funded.{finger_funded, more_bits}
-use Rattle.finger_level.proofs.Popping.{found_up}
+use Rattle.finger_level.specs.NearPops.{PoppedAsk, PoppedPut}
+use Rattle.finger_level.proofs.Draws.{deep_digits}
+use Rattle.finger_level.proofs.Found.{digit_elements}
+use Rattle.finger_level.proofs.Levels.{split_length}
+use Rattle.finger_level.proofs.Popping.{few_there, found_up}
 use Rattle.finger_level.proofs.Pushing.{both_length}
+use Rattle.finger_level.proofs.Tops.{top_well}
+use Rattle.finger_level.proofs.Values.{element_size}
 use Rattle.finger_tree.specs.Work.{is_finger_work}
-use Rattle.finger_apps.specs.Sequence.{is_leaf, pops_at, places_for, drawn_for, IsReadyEvent, PopReady, PopPrepared}
+use Rattle.finger_apps.specs.Sequence.{is_leaf, pops_at, places_for, drawn_for, IsReadyEvent}
 use Rattle.finger_apps.proofs.SequenceEnds.{leaf_at}
-use Rattle.finger_apps.proofs.Bases.{BaseRoot, base_up, DrawnRoot, drawn_root, FromGiven, Given, shown_up}
+use Rattle.finger_apps.proofs.Bases.{BaseRoot, base_up, DrawnRoot, drawn_root, FromGiven, Given, given_later, shown_up}
 
 -- ---- the operations
 
@@ -98,12 +110,6 @@ pop_ready job side kind op stage nodes k =
       },
       omega (arith, k.most, may),
     )
-
-pub empty_ready : {w : World} (side : Side) (root : ℕ) → shown_at w root ≡ Some top.empty → PopReady w side root 0
-empty_ready side root e = record { shown = top.empty; here = e; from = 0; below = top.empty; drawn = λ m h. cc; places = refl; most = omega arith }
-
-pub rest_ready : {w : World} (side : Side) (root e : ℕ) (level : Level) (nodes : ℕ) → IsRest w side root e level → nodes ≡ places_of level → PopReady w side root nodes
-rest_ready side root e level nodes r n = record { shown = r.shown; here = r.shows; from = r.from; below = r.below; drawn = r.from_middle; places = n ∙ r.places; most = omega (arith, n, r.most) }
 
 -- a place reaches itself
 self_reached : (n : ℕ) (w : World) (p : ℕ) → reaches n w p p ≡ true
@@ -325,21 +331,60 @@ pop_ended {a} {c} {n} {job} {run} {z} side kind op stage law law2 quiet k e leve
         from_up : {m : ℕ} → IsFrom c.seen m r.from r.below → IsFrom n.seen m r.from r.below
         from_up {m} h = record { place = found_up law l.filled.grows m r.from h.place; shows = top_at_up c.seen n.seen (lawful_names law) l.filled.grows m r.below h.shows }
 
+-- ---- an empty sequence
+
+-- a base of no items is the empty tree
+pub empty_shown : {w : World} → IsLawful w → (v : Version) → BaseRoot w v → v.size ≡ 0 → shown_at w v.root.0 ≡ Some top.empty
+empty_shown {w} law v b none = let t = at_true is_tree_value (recs w v.root.0) b.value in by t.0 t.1 t.2
+  where
+    some : (limit e : ℕ) → IsElement w 0 limit e → 1 ≤ length (means (recs w) e)
+    some limit e k = let t = at_true is_element (recs w e) k.sort in element_size law e 0 t.0 t.1 (sorts_agree (sort_of t.0) sorts.Element t.2) k.of_level
+
+    first : (limit : ℕ) (f : Few) (rest : List ℕ) → AllByRecursion (IsElement w 0 limit) (few_list f ++ rest) → 1 ≤ length (flat_map (means (recs w)) (few_list f))
+    first limit (few.One a) rest h = let s = some limit a.0 h.0 in let l = length-append (means (recs w) a.0) [] in omega (arith, s, l)
+    first limit (few.Two a b) rest h = let s = some limit a.0 h.0 in let l = length-append (means (recs w) a.0) (flat_map (means (recs w)) (b.0 ∷ [])) in omega (arith, s, l)
+    first limit (few.Three a b c) rest h = let s = some limit a.0 h.0 in let l = length-append (means (recs w) a.0) (flat_map (means (recs w)) (b.0 ∷ c.0 ∷ [])) in omega (arith, s, l)
+    first limit (few.Four a b c d) rest h = let s = some limit a.0 h.0 in let l = length-append (means (recs w) a.0) (flat_map (means (recs w)) (b.0 ∷ c.0 ∷ d.0 ∷ [])) in omega (arith, s, l)
+
+    by : (r : Rec) → recs w v.root.0 ≡ Some r → is_tree_value r ≡ true → shown_at w v.root.0 ≡ Some top.empty
+    by TEmpty e s = rw e refl
+    by (Single x z k) e s =
+        let t = top_well law 0 (suc v.root.0) v.root.0 _ (top.one x.0) e refl (omega arith) b.of_level in
+        let one = some (suc v.root.0) x.0 t.elements.0 in
+        let items = ap length t.items in
+        absurd (omega (arith, one, items, b.size, none))
+    by (Deep left middle right z k) e s =
+        let t = top_well law 0 (suc v.root.0) v.root.0 _ (top.deep (elements w left.0) (top.tree (Some middle.0)) (elements w right.0)) e refl (omega arith) b.of_level in
+        let f = few_there law left.0 (deep_digits law v.root.0 left middle right z k e sides.Left left right refl).0 in
+        let es = digit_elements w left.0 f.0 f.1 in
+        let one = first (suc v.root.0) f.0 (elements w right.0) (rw es at t.elements) in
+        let all : length (items_of_made (means (recs w)) (top.deep (few_list f.0) (top.tree (Some middle.0)) (elements w right.0))) ≡ length (means (recs w) v.root.0) = rw es at (ap length t.items) in
+        let parts = split_length (flat_map (means (recs w)) (few_list f.0)) (middle_items (means (recs w)) (top.tree (Some middle.0))) (flat_map (means (recs w)) (elements w right.0)) in
+        absurd (omega (arith, one, all, parts, b.size, none))
+    by _ e s = absurd (true≢false (sym s))
+
+-- the empty tree has no items
+pub empty_items : {w : World} → IsLawful w → (v : Version) → BaseRoot w v → shown_at w v.root.0 ≡ Some top.empty → means (recs w) v.root.0 ≡ []
+empty_items {w} law v b empty = let t = at_true is_tree_value (recs w v.root.0) b.value in by t.0 t.1 t.2
+  where
+    by : (r : Rec) → recs w v.root.0 ≡ Some r → is_tree_value r ≡ true → means (recs w) v.root.0 ≡ []
+    by TEmpty e s = means_is (recs w) (lawful_names law) v.root.0 TEmpty e
+    by (Single x z q) e s = absurd (let h = one_value _ _ (rw e at empty) in cc)
+    by (Deep l m r z q) e s = absurd (let h = one_value _ _ (rw e at empty) in cc)
+    by _ e s = absurd (true≢false (sym s))
+
 -- a pop of an empty sequence
-pub none_built : {a c : View} {job : EventJob} {run : Span} (side : Side) → job.base.kind ≡ kinds.Seq → pops_at job.op side ≡ true → IsLawful c.seen → Quiet a c → Given c job run → shown_at c.seen job.base.root.0 ≡ Some top.empty → (result : After) → result ≡ End job.base.root job.base.size replies.Empty → IsEventBuilt a c job run run result
-none_built {a} {c} {job} {run} side kind op law quiet k empty result is =
+pub none_built : {c : View} {job : EventJob} {run : Span} (side : Side) → job.base.kind ≡ kinds.Seq → pops_at job.op side ≡ true → IsLawful c.seen → Given c job run → job.base.size ≡ 0 → (result : After) → result ≡ End job.base.root job.base.size replies.Empty → IsEventBuilt c c job run run result
+none_built {c} {job} {run} side kind op law k none result is =
     let shown : k.shown ≡ top.empty = one_value _ _ (sym (k.shows c.seen (grows_refl c.seen)) ∙ empty) in
     let taken : places_for job.op job.base.size k.shown k.below ≡ 0 = op_pops job.op side job.base.size k.shown k.below op ∙ ap (λ m. pop_places side m k.below) shown in
-    built_same quiet (omega (arith, taken, k.places)) _ replies.Empty ended result is
+    built_same (Quiet_refl c) (omega (arith, taken, k.places)) _ replies.Empty ended result is
   where
+    empty : shown_at c.seen job.base.root.0 ≡ Some top.empty
+    empty = empty_shown law job.base k.base none
+
     no_items : means (recs c.seen) job.base.root.0 ≡ []
-    no_items = let t = at_true is_tree_value (recs c.seen job.base.root.0) k.base.value in by t.0 t.1 t.2
-      where
-        by : (r : Rec) → recs c.seen job.base.root.0 ≡ Some r → is_tree_value r ≡ true → means (recs c.seen) job.base.root.0 ≡ []
-        by TEmpty e v = means_is (recs c.seen) (lawful_names law) job.base.root.0 TEmpty e
-        by (Single x z q) e v = absurd (let h = one_value _ _ (rw e at empty) in cc)
-        by (Deep l m r z q) e v = absurd (let h = one_value _ _ (rw e at empty) in cc)
-        by _ e v = absurd (true≢false (sym v))
+    no_items = empty_items law job.base k.base empty
 
     ended : IsEnd c.seen job job.base.root.0 job.base.size replies.Empty
     ended =
@@ -367,3 +412,17 @@ none_waits {c} {job} {run} side op law k m r =
     let f = (k.drawn m (rw shown (op_draws job.op side r.shown op ∙ r.middle))).at c.seen (grows_refl c.seen) in
     let z : None ≡ Some k.from = sym r.waits ∙ f.place in
     cc
+
+-- ---- what is asked of the put
+
+pub popped_ask : {v : View} {job : EventJob} {run : Span} → IsLawful v.seen → Given v job run → (side : Side) → job.base.kind ≡ kinds.Seq → pops_at job.op side ≡ true → job.stage ≡ Start → (whole : Weight) → 0 < job.base.size → whole.size ≡ job.base.size - 1 → PoppedAsk v run side job.base.root.0 First whole
+popped_ask {v} {job} {run} law k side kind op stage whole some size = record {
+  some = λ c q law2 empty. (let z = ap length (empty_items law2 job.base (given_later q law k).base empty) in let b = (given_later q law k).base in omega (arith, z, some, b.size));
+  known = λ c q law2 m r. none_waits side op law2 (given_later q law k) m r;
+  rest = λ c q law2 e level r. (let n = given_later q law k in pop_ask n side kind op stage e level r (popping law2 n side op e level r) whole size);
+}
+
+pub popped_ended : {v n : View} {job : EventJob} {run z : Span} (side : Side) → job.base.kind ≡ kinds.Seq → pops_at job.op side ≡ true → job.stage ≡ Start → IsLawful v.seen → IsLawful n.seen → Given v job run → (whole : Weight) → whole.size ≡ job.base.size - 1 → whole.key.0 ≡ 0 → (root : Ref) → PoppedPut v n run z side job.base.root.0 First false whole root.0 → IsEventBuilt v n job run z (End root whole.size replies.Ok)
+popped_ended side kind op stage law law2 k whole size none root p =
+    let n = given_later p.quiet law k in
+    pop_ended side kind op stage p.law law2 p.quiet n p.element p.level p.rest (popping p.law n side op p.element p.level p.rest) whole size none root p.put (λ _ e. p.keys k.base.keys e)

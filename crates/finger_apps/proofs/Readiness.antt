@@ -16,7 +16,8 @@ use Rattle.finger_level.specs.declared.level.Side.{Side}
 use Rattle.finger_level.specs.declared.level.Side.TheVariants as sides
 use Rattle.finger_level.specs.Reads.{is_tree_value}
 use Rattle.finger_apps.specs.Sequence.{pushes_at, is_end_op, push_places, places_for, drawn_for, shown_at, IsReadyEvent}
-use Rattle.finger_apps.proofs.Bases.{BaseRoot, level_shown, stays}
+use Rattle.finger_level.proofs.PopNeeds.{level_shown}
+use Rattle.finger_apps.proofs.Bases.{BaseRoot, stays}
 use Rattle.finger_apps.proofs.PushEnds.{op_places, job_may}
 
 -- they draw up no middle

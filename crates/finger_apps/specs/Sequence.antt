@@ -1,5 +1,5 @@
 -- What the operations at the ends of sequences need and take.
-use Rattle.std.specs.Prelude.{◌≡◌, ◌≤◌, ℕ, suc, eqb, cond, Bool, true, false, ltb, ◌&&◌, Option, Some, None, List, [], ◌∷◌, slice_get}
+use Rattle.std.specs.Prelude.{◌≡◌, ℕ, suc, eqb, cond, Bool, true, false, ltb, ◌&&◌, Option, Some, None, List, [], ◌∷◌, slice_get}
 use Rattle.lazy_rec.specs.declared.records.Rec.{Rec}
 use Rattle.lazy_rec.specs.declared.records.Rec.TheVariants.{Leaf}
 use Rattle.lazy_rec.specs.declared.events.Op.{Op}
@@ -14,7 +14,7 @@ use Rattle.finger_level.specs.declared.level.Side.{Side}
 use Rattle.finger_level.specs.declared.level.Side.TheVariants as sides
 use Rattle.finger_level.specs.Level.{made_places, kept_of}
 use Rattle.finger_level.specs.Pushes.{push_all}
-use Rattle.finger_level.specs.Pops.{drawn_middle, pop_places, IsFrom, IsToDraw}
+use Rattle.finger_level.specs.Pops.{drawn_middle, pop_places, IsFrom}
 pub use Rattle.finger_level.specs.Pops.{shown_at}
 
 -- ---- operations
@@ -106,17 +106,3 @@ pub record IsReadyEvent (w : World) (job : EventJob) (nodes : ℕ) : Type 0 wher
 abbrev pub is_ready : Prep → Bool
 is_ready (Need _) = false
 is_ready (Ready _) = true
-
--- what a pop needs, or the places of the level that it leaves
-pub record PopReady (w : World) (side : Side) (root nodes : ℕ) : Type 0 where
-  pub shown : Made
-  pub here : shown_at w root ≡ Some shown
-  pub from : ℕ
-  pub below : Made
-  pub drawn : (m : ℕ) → drawn_middle side shown ≡ Some m → IsFrom w m from below
-  pub places : nodes ≡ pop_places side shown below
-  pub most : nodes ≤ 4
-
-abbrev pub PopPrepared : World → Side → ℕ → Prep → Type 0
-PopPrepared w side root (Need m) = IsToDraw w side root m.0
-PopPrepared w side root (Ready nodes) = PopReady w side root nodes

@@ -7,14 +7,11 @@ ghost use Rattle.heap_store.specs.View.{Quiet};
 ghost use Rattle.heap_store.specs.Jobs.{IsJob, EventPrepared, IsEventBuildable, IsEventBuilt};
 ghost use Rattle.heap_store.specs.OneStage.{ends_at, is_end};
 ghost use Rattle.finger_level.specs.Reads.{is_tree_value};
-ghost use Rattle.finger_level.specs.Pops.{IsWhole};
 ghost use Rattle.finger_tree.specs.Work.{is_finger_work};
-ghost use Rattle.finger_apps.specs.Sequence.{is_end_op, is_pop, drops, pushes_at, pops_at, looks_at, push_places, shown_at, IsReadyEvent, PopPrepared, is_ready};
+ghost use Rattle.finger_apps.specs.Sequence.{is_end_op, is_pop, drops, pushes_at, pops_at, looks_at, push_places, shown_at, IsReadyEvent, is_ready};
 
 use crate::sequence::end_item;
-use finger_level::{
-    Family, Popped, Side, Weight, places, popped_level, pushed_places, put_level, put_pushed,
-};
+use finger_level::{Family, Side, Weight, popped_need, pushed_places, put_popped, put_pushed};
 use heap_store::{After, Cursor, EventJob, Heap, Prep, Run, Stage, Version};
 use lazy_rec::limits::MOST_ITEMS;
 use lazy_rec::{Item, Kind, Op, Rec, Reply};
@@ -42,8 +39,8 @@ pub fn prepare_event<H: Heap>(h: &mut H, job: &EventJob, cursor: &mut Cursor) ->
     ensures ready { is_pop job.now.op ≡ false → is_ready result ≡ true }
 {
     match job.op {
-        Op::Popl => places_of_pop(h, Side::Left, &job.base),
-        Op::Popr => places_of_pop(h, Side::Right, &job.base),
+        Op::Popl => popped_need(h, Side::Left, job.base.root),
+        Op::Popr => popped_need(h, Side::Right, job.base.root),
         Op::Pushl => Prep::Ready {
             nodes: places_of_push(h, Side::Left, &job.base),
         },
@@ -90,22 +87,6 @@ fn places_of_push<H: Heap>(h: &mut H, side: Side, base: &Version) -> u32
         return 0;
     }
     pushed_places(h, side, base.root) + 1
-}
-
-/// What a pop needs, and how many places it takes.
-#[inline(always)]
-fn places_of_pop<H: Heap>(h: &mut H, side: Side, base: &Version) -> Prep
-    requires { IsWhole (H.view h.old).seen base.now.root.0 }
-    ensures quiet { Quiet (H.view h.old) (H.view h.new) }
-    ensures answer { PopPrepared (H.view h.new).seen side base.now.root.0 result }
-{
-    match popped_level(h, side, base.root) {
-        Popped::Nothing => Prep::Ready { nodes: 0 },
-        Popped::Rest { level, .. } => Prep::Ready {
-            nodes: places(level),
-        },
-        Popped::Need(middle) => Prep::Need(middle),
-    }
 }
 
 /// An event that makes nothing ends at its base's root.
@@ -172,19 +153,16 @@ fn pop<H: Heap>(h: &mut H, side: Side, job: &EventJob, run: &mut Run) -> After
     ensures base { job.now.base.size ≡ 0 → ends_at result job.now.base.root.0 ≡ true }
     ensures ends { is_end result ≡ true }
 {
-    match popped_level(h, side, job.base.root) {
-        Popped::Nothing => same(&job.base, Reply::Empty),
-        Popped::Rest { level, .. } => {
-            let size = job.base.size - 1;
-            let whole = Weight { size, key: Item(0) };
-            let root = put_level(h, level, whole, Family::First, false, run);
-            After::End {
-                root,
-                size,
-                reply: Reply::Ok,
-            }
-        }
-        Popped::Need(_) => unreachable!(),
+    if job.base.size == 0 {
+        return same(&job.base, Reply::Empty);
+    }
+    let size = job.base.size - 1;
+    let whole = Weight { size, key: Item(0) };
+    let root = put_popped(h, side, job.base.root, whole, Family::First, false, run);
+    After::End {
+        root,
+        size,
+        reply: Reply::Ok,
     }
 }
 

@@ -23,5 +23,8 @@ pub mod Joins
 pub mod TailPuts
 pub mod Draws
 pub mod Popping
-pub mod NearPushes
+pub mod PopNeeds
 pub mod NearPuts
+pub mod NearPops
+pub mod NearDraws
+pub mod NearPushes

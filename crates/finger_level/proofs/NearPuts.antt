@@ -11,14 +11,15 @@ use Rattle.finger_level.specs.declared.few.Few.{Few}
 use Rattle.finger_level.specs.declared.few.Weight.{Weight}
 use Rattle.finger_level.specs.declared.level.Digit.{Digit}
 use Rattle.finger_level.specs.declared.level.Digit.TheVariants as digits
+use Rattle.finger_level.specs.declared.level.Middle.{Middle}
 use Rattle.finger_level.specs.declared.level.Middle.TheVariants as middles
-use Rattle.finger_level.specs.declared.level.Level.TheVariants as levels
 use Rattle.finger_level.specs.declared.level.Family.{Family}
 use Rattle.finger_level.specs.declared.level.Side.{Side}
 use Rattle.finger_level.specs.declared.level.Side.TheVariants as sides
 use Rattle.finger_level.specs.Few.{few_list}
+use Rattle.finger_level.specs.Level.{middle_of, middle_places}
 use Rattle.finger_level.specs.Keyed.{HasKeys}
-use Rattle.finger_level.specs.Puts.{PartAsk, DigitPut, EndsAsk, EndsPut, LevelAsk, LevelPut, MiddlePut}
+use Rattle.finger_level.specs.Puts.{PartAsk, DigitPut, EndsAsk, EndsPut, LevelAsk, LevelPut, MiddleAsk, MiddlePut}
 use Rattle.finger_level.specs.Pops.{both_ends, level_by}
 use Rattle.finger_level.specs.NearPuts.{near_digits}
 use Rattle.finger_level.specs.Reads.{IsDigitAt}
@@ -72,14 +73,28 @@ both_keyed w keyed sides.Right digit far ends e a b = rw e (b, a)
 
 -- ---- as a level
 
-module _ {v : View} {run : Span} (law : IsLawfulView v) (near : Few) (middle far : Ref) (other : Few) (family : Family) (whole : Weight) where
-  stands : (left right : Digit) (k : LevelAsk v run (levels.Deep left (middles.Tree (Some middle)) right) family whole) → MiddlePut v v run run family 0 (top.tree (Some middle.0)) middle.0
-  stands left right k = tree_put (middles.Tree (Some middle)) (Some middle) family refl law.world (middle_ask law left (middles.Tree (Some middle)) right family whole k) middle refl
+-- over any middle, which is put first
+module _ {v : View} {run : Span} (law : IsLawfulView v) (near : Few) (m : Middle) (far : Ref) (other : Few) (family : Family) (whole : Weight) where
+  pub over_middle : (side : Side) → LevelAsk v run (level_by side near m (digits.Old far other)) family whole → MiddleAsk v run m family
+  over_middle sides.Left k = middle_ask law (digits.New near) m (digits.Old far other) family whole k
+  over_middle sides.Right k = middle_ask law (digits.Old far other) m (digits.New near) family whole k
 
-  pub near_ask : (side : Side) → LevelAsk v run (level_by side near (middles.Tree (Some middle)) (digits.Old far other)) family whole → EndsAsk v run (near_digits side near far other).0 middle.0 (near_digits side near far other).1 whole.size
-  near_ask sides.Left k = ends_ask law (digits.New near) (middles.Tree (Some middle)) (digits.Old far other) family whole k middle (stands (digits.New near) (digits.Old far other) k)
-  near_ask sides.Right k = ends_ask law (digits.Old far other) (middles.Tree (Some middle)) (digits.New near) family whole k middle (stands (digits.Old far other) (digits.New near) k)
+  module _ {b : View} {y : Span} (below : Ref) (mp : MiddlePut v b run y family (middle_places m) (middle_of m) below.0) where
+    pub over_ask : (side : Side) → LevelAsk v run (level_by side near m (digits.Old far other)) family whole → EndsAsk b y (near_digits side near far other).0 below.0 (near_digits side near far other).1 whole.size
+    over_ask sides.Left k = ends_ask law (digits.New near) m (digits.Old far other) family whole k below mp
+    over_ask sides.Right k = ends_ask law (digits.Old far other) m (digits.New near) family whole k below mp
 
-  pub near_level : (side : Side) → LevelAsk v run (level_by side near (middles.Tree (Some middle)) (digits.Old far other)) family whole → {n : View} {e : Span} {place : ℕ} → IsLawful n.seen → EndsPut v n run e (near_digits side near far other).0 middle (near_digits side near far other).1 whole place → LevelPut v n run e family (level_by side near (middles.Tree (Some middle)) (digits.Old far other)) place
-  near_level sides.Left k law2 p = put_made law (digits.New near) (middles.Tree (Some middle)) (digits.Old far other) family whole k middle (stands (digits.New near) (digits.Old far other) k) law.world law2 p
-  near_level sides.Right k law2 p = put_made law (digits.Old far other) (middles.Tree (Some middle)) (digits.New near) family whole k middle (stands (digits.Old far other) (digits.New near) k) law.world law2 p
+    pub over_level : (side : Side) → LevelAsk v run (level_by side near m (digits.Old far other)) family whole → IsLawful b.seen → {n : View} {e : Span} {place : ℕ} → IsLawful n.seen → EndsPut b n y e (near_digits side near far other).0 below (near_digits side near far other).1 whole place → LevelPut v n run e family (level_by side near m (digits.Old far other)) place
+    over_level sides.Left k law1 law2 p = put_made law (digits.New near) m (digits.Old far other) family whole k below mp law1 law2 p
+    over_level sides.Right k law1 law2 p = put_made law (digits.Old far other) m (digits.New near) family whole k below mp law1 law2 p
+
+-- over a middle that stands
+module _ {v : View} {run : Span} (law : IsLawfulView v) (near : Few) (middle far : Ref) (other : Few) (family : Family) (whole : Weight) (side : Side) (k : LevelAsk v run (level_by side near (middles.Tree (Some middle)) (digits.Old far other)) family whole) where
+  stands : MiddlePut v v run run family 0 (top.tree (Some middle.0)) middle.0
+  stands = tree_put (middles.Tree (Some middle)) (Some middle) family refl law.world (over_middle law near (middles.Tree (Some middle)) far other family whole side k) middle refl
+
+  pub near_ask : EndsAsk v run (near_digits side near far other).0 middle.0 (near_digits side near far other).1 whole.size
+  near_ask = over_ask law near (middles.Tree (Some middle)) far other family whole middle stands side k
+
+  pub near_level : {n : View} {e : Span} {place : ℕ} → IsLawful n.seen → EndsPut v n run e (near_digits side near far other).0 middle (near_digits side near far other).1 whole place → LevelPut v n run e family (level_by side near (middles.Tree (Some middle)) (digits.Old far other)) place
+  near_level law2 p = over_level law near (middles.Tree (Some middle)) far other family whole middle stands side k law.world law2 p

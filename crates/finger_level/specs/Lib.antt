@@ -7,4 +7,6 @@ pub mod Puts
 pub mod Pops
 pub mod Concat
 pub mod NearPuts
+pub mod NearPops
+pub mod NearDraws
 pub mod NearPushes

@@ -4,6 +4,8 @@ use Rattle.std.specs.List.{AllByRecursion}
 use Rattle.lazy_rec.specs.declared.places.Ref.{Ref}
 use Rattle.lazy_rec.specs.declared.records.Rec.{Rec}
 use Rattle.lazy_rec.specs.Meaning.{means}
+use Rattle.heap_store.specs.declared.jobs.Prep.{Prep}
+use Rattle.heap_store.specs.declared.jobs.Prep.TheVariants.{Need, Ready}
 use Rattle.heap_store.specs.World.{World, recs, holds}
 use Rattle.heap_store.specs.Completion as top
 use Rattle.heap_store.specs.Completion.{Made, elements, top_of_record}
@@ -164,3 +166,18 @@ abbrev pub IsPopped : World → Side → ℕ → Popped → Type 0
 IsPopped w side root found.Nothing = shown_at w root ≡ Some top.empty
 IsPopped w side root (found.Rest e level) = IsRest w side root e.0 level
 IsPopped w side root (found.Need m) = IsToDraw w side root m.0
+
+-- a pop needs nothing, and takes the places of the level that it leaves
+pub record PopReady (w : World) (side : Side) (root nodes : ℕ) : Type 0 where
+  pub shown : Made
+  pub here : shown_at w root ≡ Some shown
+  pub from : ℕ
+  pub below : Made
+  pub drawn : (m : ℕ) → drawn_middle side shown ≡ Some m → IsFrom w m from below
+  pub places : nodes ≡ pop_places side shown below
+  pub most : nodes ≤ 4
+
+-- what a pop needs, or the places of the level that it leaves
+abbrev pub PopPrepared : World → Side → ℕ → Prep → Type 0
+PopPrepared w side root (Need m) = IsToDraw w side root m.0
+PopPrepared w side root (Ready nodes) = PopReady w side root nodes

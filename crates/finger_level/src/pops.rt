@@ -1,19 +1,19 @@
 //! What is left of a level whose element at an end is taken, nothing of which is published yet.
-ghost use Rattle.std.specs.Prelude.{◌≡◌, ◌++◌, ◌∷◌, [], ℕ, Bool, true};
+ghost use Rattle.std.specs.Prelude.{◌≡◌, ◌≤◌, ◌++◌, ◌∷◌, [], ℕ, Bool, true, cond, Some};
 ghost use Rattle.heap_store.specs.World.{World, recs, holds};
-ghost use Rattle.heap_store.specs.Completion.{of_digit};
+ghost use Rattle.heap_store.specs.Completion.{Made, elements, of_digit};
 ghost use Rattle.heap_store.specs.View.{Quiet};
 ghost use Rattle.finger_level.specs.Few.{few_list, few_of_group, rest_list};
 ghost use Rattle.finger_level.specs.Level.{made_of, places_of, made_places};
-ghost use Rattle.finger_level.specs.Reads.{AreThere, AreUnder, is_digit_rec};
+ghost use Rattle.finger_level.specs.Reads.{AreThere, AreUnder, is_digit_rec, is_tree_value};
 ghost use Rattle.finger_level.specs.Keyed.{AreKeyed, KeyedLevel};
 ghost use Rattle.finger_level.specs.Pushes.{beside};
-ghost use Rattle.finger_level.specs.Pops.{both_ends, what_is_left, level_by, IsUpper, IsDrawn, IsWhole, IsPopped};
+ghost use Rattle.finger_level.specs.Pops.{both_ends, what_is_left, level_by, is_single, drawn_places, shown_at, IsUpper, IsDrawn, IsWhole, IsPopped, PopPrepared};
 
 use crate::few::{Few, Group};
 use crate::level::{Digit, Level, Middle, Side};
 use crate::reads::{read_digit, read_node};
-use heap_store::{Heap, value_place};
+use heap_store::{Heap, Prep, value_place};
 use lazy_rec::{Rec, Ref};
 
 /// An element at an end of a digit, and what is left of the digit.
@@ -54,7 +54,7 @@ pub(crate) fn both_ends(side: Side, left: Ref, right: Ref) -> (Ref, Ref)
 }
 
 /// The elements of a node, as those of a digit.
-fn few_of_group(group: Group) -> Few
+pub(crate) fn few_of_group(group: Group) -> Few
     ensures { result ≡ few_of_group group }
 {
     match group {
@@ -209,6 +209,81 @@ pub fn popped_level<H: Heap>(h: &mut H, side: Side, root: Ref) -> Popped
             let other = Digit::Old { place: far, few };
             let level = level_by(side, rest, Middle::Tree(Some(middle)), other);
             Popped::Rest { element, level }
+        }
+        _ => unreachable!(),
+    }
+}
+
+/// Whether a digit has one element.
+fn has_one<H: Heap>(h: &mut H, p: Ref) -> bool
+    requires { holds (recs (H.view h.old).seen) p.0 is_digit_rec ≡ true }
+    ensures quiet { Quiet (H.view h.old) (H.view h.new) }
+    ensures one { result ≡ is_single (elements (H.view h.new).seen p.0) }
+{
+    match h.read(p) {
+        Rec::Digit { count, .. } => count == 1,
+        _ => unreachable!(),
+    }
+}
+
+/// So many places where a digit has one element, or else so many.
+fn either(one: bool, few: u32, more: u32) -> u32
+    ensures { result ≡ cond one few more }
+{
+    if one { few } else { more }
+}
+
+/// How many places the level takes that is drawn from the middle's value at `q` and the digit at `p`.
+fn drawn_count<H: Heap>(h: &mut H, side: Side, q: Ref, p: Ref) -> u32
+    requires value { holds (recs (H.view h.old).seen) q.0 is_tree_value ≡ true }
+    requires digit { holds (recs (H.view h.old).seen) p.0 is_digit_rec ≡ true }
+    ensures quiet { Quiet (H.view h.old) (H.view h.new) }
+    ensures count { (shown : Made) → shown_at (H.view h.new).seen q.0 ≡ Some shown → result ≡ drawn_places side (elements (H.view h.new).seen p.0) shown }
+    ensures most { result ≤ 4 }
+{
+    match h.read(q) {
+        Rec::TEmpty => {
+            let one = has_one(h, p);
+            either(one, 1, 3)
+        }
+        Rec::Single { .. } => 2,
+        Rec::Deep { left, right, .. } => {
+            let (near, _) = both_ends(side, left, right);
+            let one = has_one(h, near);
+            either(one, 3, 4)
+        }
+        _ => unreachable!(),
+    }
+}
+
+/// What a pop off the tree whose value is at a place needs, and how many places the level takes that it leaves. It reads the
+/// digit of the side alone, and the middle's value where nothing is left of that digit.
+#[inline]
+pub fn popped_need<H: Heap>(h: &mut H, side: Side, root: Ref) -> Prep
+    requires { IsWhole (H.view h.old).seen root.0 }
+    ensures quiet { Quiet (H.view h.old) (H.view h.new) }
+    ensures answer { PopPrepared (H.view h.new).seen side root.0 result }
+{
+    match h.read(root) {
+        Rec::TEmpty => Prep::Ready { nodes: 0 },
+        Rec::Single { .. } => Prep::Ready { nodes: 0 },
+        Rec::Deep {
+            left,
+            middle,
+            right,
+            ..
+        } => {
+            let (near, far) = both_ends(side, left, right);
+            if !has_one(h, near) {
+                return Prep::Ready { nodes: 2 };
+            }
+            match value_place(h, middle) {
+                Some(q) => {
+                    let nodes = drawn_count(h, side, q, far);
+                    Prep::Ready { nodes }
+                }
+                None => Prep::Need(middle),
+            }
         }
         _ => unreachable!(),
     }

@@ -54,7 +54,7 @@ fn weigh_group<H: Heap>(h: &mut H, group: Group, keyed: bool) -> Weight
     }
 }
 
-fn weigh_few<H: Heap>(h: &mut H, few: Few, keyed: bool) -> Weight
+pub(crate) fn weigh_few<H: Heap>(h: &mut H, few: Few, keyed: bool) -> Weight
     requires elements { AllByRecursion (λ e. holds (recs (H.view h.old).seen) e is_element ≡ true) (few_list few) }
     requires small { length (flat_map (means (recs (H.view h.old).seen)) (few_list few)) ≤ 2147483647 }
     ensures quiet { Quiet (H.view h.old) (H.view h.new) }

@@ -62,7 +62,7 @@ pub fn read_node<H: Heap>(h: &mut H, e: Ref) -> Group
     }
 }
 
-fn group_elements(count: u8, e1: Ref, e2: Ref, e3: Ref) -> Group
+pub(crate) fn group_elements(count: u8, e1: Ref, e2: Ref, e3: Ref) -> Group
     ensures { result ≡ group_at count e1 e2 e3 }
 {
     if count == 2 {

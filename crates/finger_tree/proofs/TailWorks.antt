@@ -7,6 +7,10 @@ use Rattle.lazy_rec.specs.declared.records.Sort.TheVariants as sorts
 use Rattle.lazy_rec.specs.Named.{NamedPlace, named, same_sort}
 use Rattle.lazy_rec.specs.Meaning.{means}
 use Rattle.lazy_rec.proofs.HistoryLaws.{all_true}
+use Rattle.heap_store.specs.Span.{Span}
+use Rattle.heap_store.specs.View.{View, Quiet}
+use Rattle.heap_store.specs.Jobs.{IsBuildable, IsBuilt}
+use Rattle.heap_store.proofs.Steps.{Quiet_trans}
 use Rattle.heap_store.specs.World.{World, recs, holds}
 use Rattle.heap_store.specs.Completion.{Made, elements, made_tree, top_at}
 use Rattle.heap_store.specs.Lawful.{IsLawful, level_of, is_of_level, level_from, level, height, has_low_names, is_finger}
@@ -17,6 +21,7 @@ use Rattle.heap_store.proofs.MadeLaws.{top_at_up}
 use Rattle.heap_store.proofs.MeaningLaws.{means_is}
 use Rattle.finger_level.specs.declared.few.Weight.{Weight}
 use Rattle.finger_level.specs.declared.level.Level.{Level}
+use Rattle.finger_level.specs.declared.level.Family.TheVariants.{Later}
 use Rattle.finger_level.specs.declared.level.Side.{Side}
 use Rattle.finger_level.specs.declared.level.Side.TheVariants as sides
 use Rattle.finger_level.specs.Level.{made_of, drawn_kept}
@@ -31,8 +36,9 @@ use Rattle.finger_level.proofs.Keying.{keyed_of, value_keyed}
 use Rattle.finger_level.proofs.Pushing.{both_length}
 use Rattle.finger_level.proofs.Tails.{tail_level, tail_means, tail_size, tail_tree}
 use Rattle.finger_tree.specs.declared.tail.Tail.{Tail}
-use Rattle.finger_tree.specs.Work.{kept_by, shown_by, hanging}
-use Rattle.finger_tree.proofs.Works.{Shape, Waited, Makes}
+use Rattle.finger_level.specs.NearDraws.{DrawnAsk, DrawnPut}
+use Rattle.finger_tree.specs.Work.{kept_by, shown_by, hanging, LevelTold}
+use Rattle.finger_tree.proofs.Works.{Shape, Waited, Makes, build_facts, work_ask, level_keys, work_built, waited_there, value_up_at}
 
 -- ---- a suspended tail in the world
 
@@ -157,3 +163,23 @@ tail_works {w} law s q t made_level e k m =
       keyed = λ j h. (let x = tail_keys law j s t e h in m.keyed j (value_keyed law j t.middle.0 q middle.0 middle.1 middle.2 k.found x.middle) x.digit);
       key = λ j h. (tail_keys law j s t e h).key_is;
     }
+
+-- ---- what is put
+
+-- whatever is read before, the level that it makes can be put
+pub tail_ask : {a v : View} {run : Span} (s : Ref) (q : ℕ) (t : Tail) → Quiet a v → IsLawful v.seen → recs a.seen s.0 ≡ Some (hanging t) → IsBuildable LevelTold a s run → IsValueAt v.seen t.middle.0 q → DrawnAsk v run t.side q t.digit.0 (Later s t.origin t.off) t.weight
+tail_ask {a} {v} {run} s q t quiet law e b value = λ c r law2 level m. (
+    let up = Quiet_trans quiet r in
+    let here = quiet.grows.records _ _ e in
+    let k = value_up_at law r.grows t.middle.0 q (waited_there (waited law s.0 t here)) value in
+    let facts = build_facts up law2 b (shape t) e (λ w l n. (waited l s.0 t n, tt)) in
+    work_ask (shape t) s q t.weight level (tail_works law2 s.0 q t level (up.grows.records _ _ e) k m) facts (facts.value_low.0 q k))
+
+pub tail_built : {a v n : View} {run z : Span} {place : ℕ} (s : Ref) (q : ℕ) (t : Tail) → Quiet a v → IsLawful v.seen → IsLawful n.seen → recs a.seen s.0 ≡ Some (hanging t) → IsBuildable LevelTold a s run → IsValueAt v.seen t.middle.0 q → DrawnPut v n run z t.side q t.digit.0 (Later s t.origin t.off) (ltb 0 t.weight.key.0) t.weight place → IsBuilt a n s.0 run z place 1
+tail_built {a} {v} {n} {run} {z} {place} s q t quiet law law2 e b value p =
+    let up = Quiet_trans quiet p.quiet in
+    let here = quiet.grows.records _ _ e in
+    let k = value_up_at law p.quiet.grows t.middle.0 q (waited_there (waited law s.0 t here)) value in
+    let facts = build_facts up p.law b (shape t) e (λ w l m. (waited l s.0 t m, tt)) in
+    let works = tail_works p.law s.0 q t p.level (up.grows.records _ _ e) k p.drawn in
+    work_built (shape t) p.law law2 s q p.level place works p.put (level_keys n.seen place works p.keys) up facts (facts.value_low.0 q k)

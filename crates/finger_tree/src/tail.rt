@@ -5,7 +5,7 @@ ghost use Rattle.heap_store.specs.View.{Quiet};
 ghost use Rattle.heap_store.specs.Jobs.{cursor_fits, Prepared, IsBuildable, IsBuilt};
 ghost use Rattle.finger_tree.specs.Work.{is_tail, is_finger_work, hanging, LevelTold};
 
-use finger_level::{Family, Side, Weight, drawn_level, places, put_level};
+use finger_level::{Family, Side, Weight, drawn_level, places, put_drawn};
 use heap_store::{Built, Cursor, Heap, Prep, Run, value_place};
 use lazy_rec::{Rec, Ref};
 
@@ -92,13 +92,13 @@ pub fn build<H: Heap>(rec: &Rec, h: &mut H, s: Ref, cursor: &Cursor, run: &mut R
     let tail = tail_of(rec);
     match value_place(h, tail.middle) {
         Some(q) => {
-            let level = drawn_level(h, tail.side, q, tail.digit);
             let family = Family::Later {
                 of: s,
                 origin: tail.origin,
                 off: tail.off,
             };
-            let place = put_level(h, level, tail.weight, family, tail.weight.key.0 > 0, run);
+            let keyed = tail.weight.key.0 > 0;
+            let place = put_drawn(h, tail.side, q, tail.digit, tail.weight, family, keyed, run);
             Built { place, steps: 1 }
         }
         None => unreachable!(),

@@ -7,23 +7,23 @@ use Rattle.finger_apps.proofs.PopEnds.{pop_answer}
 use Rattle.finger_apps.proofs.Readiness.{push_ready, none_ready, others}
 use Rattle.finger_apps.proofs.events.prepare_event.Goals as goal
 
-pub places_of_pop-requires : goal.places_of_pop-requires
-places_of_pop-requires g c = let b = base_root (g.met.H.Heap.lawful c.args.h.now).world c.args.job.now.base c.requires.job.base c.requires.kind in record { depth = 0; value = b.value; of_level = b.of_level }
+pub popped_need-requires : goal.popped_need-requires
+popped_need-requires g c = let b = base_root (g.met.H.Heap.lawful c.args.h.now).world c.args.job.now.base c.requires.job.base c.requires.kind in record { depth = 0; value = b.value; of_level = b.of_level }
 
-pub places_of_pop-requires-in-Popr : goal.places_of_pop-requires-in-Popr
-places_of_pop-requires-in-Popr g c = let b = base_root (g.met.H.Heap.lawful c.args.h.now).world c.args.job.now.base c.requires.job.base c.requires.kind in record { depth = 0; value = b.value; of_level = b.of_level }
+pub popped_need-requires-in-Popr : goal.popped_need-requires-in-Popr
+popped_need-requires-in-Popr g c = let b = base_root (g.met.H.Heap.lawful c.args.h.now).world c.args.job.now.base c.requires.job.base c.requires.kind in record { depth = 0; value = b.value; of_level = b.of_level }
 
 pub returns-in-Popl-clause-answer : goal.returns-in-Popl-clause-answer
 returns-in-Popl-clause-answer g c =
     let law = (g.met.H.Heap.lawful c.args.h.now).world in
-    let p = c.places_of_pop.ensures in
-    pop_answer (g.met.H.Heap.lawful c.places_of_pop.new.h).world c.args.job.now sides.Left c.requires.kind (ap (λ o. pops_at o sides.Left) c.in-Popl.is) (starts c.args.job.now c.requires.kind c.requires.op c.requires.job) (base_up law p.quiet.grows c.args.job.now.base (base_root law c.args.job.now.base c.requires.job.base c.requires.kind)) c.places_of_pop.result p.answer
+    let p = c.popped_need.ensures in
+    pop_answer (g.met.H.Heap.lawful c.popped_need.new.h).world c.args.job.now sides.Left c.requires.kind (ap (λ o. pops_at o sides.Left) c.in-Popl.is) (starts c.args.job.now c.requires.kind c.requires.op c.requires.job) (base_up law p.quiet.grows c.args.job.now.base (base_root law c.args.job.now.base c.requires.job.base c.requires.kind)) c.popped_need.result p.answer
 
 pub returns-in-Popr-clause-answer : goal.returns-in-Popr-clause-answer
 returns-in-Popr-clause-answer g c =
     let law = (g.met.H.Heap.lawful c.args.h.now).world in
-    let p = c.places_of_pop-in-Popr.ensures in
-    pop_answer (g.met.H.Heap.lawful c.places_of_pop-in-Popr.new.h).world c.args.job.now sides.Right c.requires.kind (ap (λ o. pops_at o sides.Right) c.in-Popr.is) (starts c.args.job.now c.requires.kind c.requires.op c.requires.job) (base_up law p.quiet.grows c.args.job.now.base (base_root law c.args.job.now.base c.requires.job.base c.requires.kind)) c.places_of_pop-in-Popr.result p.answer
+    let p = c.popped_need-in-Popr.ensures in
+    pop_answer (g.met.H.Heap.lawful c.popped_need-in-Popr.new.h).world c.args.job.now sides.Right c.requires.kind (ap (λ o. pops_at o sides.Right) c.in-Popr.is) (starts c.args.job.now c.requires.kind c.requires.op c.requires.job) (base_up law p.quiet.grows c.args.job.now.base (base_root law c.args.job.now.base c.requires.job.base c.requires.kind)) c.popped_need-in-Popr.result p.answer
 
 pub returns-in-Pushl-clause-answer : goal.returns-in-Pushl-clause-answer
 returns-in-Pushl-clause-answer g c =
