@@ -10,6 +10,7 @@ use Rattle.lazy_rec.specs.Named.{NamedPlace, named, at_record}
 use Rattle.lazy_rec.specs.ByPlace.{below, by_place}
 use Rattle.lazy_rec.specs.Meaning.{means}
 use Rattle.lazy_rec.specs.Tests.{implies}
+use Rattle.lazy_rec.specs.declared.events.Kind.{Kind}
 use Rattle.lazy_rec.specs.declared.events.Kind.TheVariants as kinds
 use Rattle.heap_store.specs.World.{World, recs, holds, done_at}
 use Rattle.heap_store.specs.Growth.{Grows}
@@ -74,10 +75,32 @@ keyed_of {w} law keyed p r e h =
     record { key = k.0; all = all_true (λ (q : NamedPlace). has_keys (way keyed) (recs w) q.0) (named r) k.1 }
 
 -- the key that a record caches
-pub cached_is : (keyed : Bool) (xs : List ℕ) (o : Option ℕ) → has_key (way keyed) xs o ≡ true → (o ≡ None → xs ≡ []) → elim o [ None ↦ 0 | Some k ↦ k ] ≡ key_in keyed xs
-cached_is true xs None h none = rw (none refl) refl
-cached_is false xs None h none = refl
-cached_is keyed xs (Some k) h none = eqb-true k (key_in keyed xs) h
+cached_is : (k : Kind) (xs : List ℕ) (o : Option ℕ) → has_key k xs o ≡ true → (o ≡ None → xs ≡ []) → elim o [ None ↦ 0 | Some key ↦ key ] ≡ key_for k xs
+cached_is k xs None h none = rw (none refl) (no_items k)
+  where
+    no_items : (k : Kind) → 0 ≡ key_for k []
+    no_items kinds.Prio = refl
+    no_items kinds.Ord = refl
+    no_items _ = refl
+cached_is k xs (Some key) h none = eqb-true key (key_for k xs) h
+
+-- ---- the key of a tree
+
+-- a tree's record without a key has no items
+no_key_empty : {w : World} → IsLawful w → (t : ℕ) (r : Rec) → recs w t ≡ Some r → is_tree_rec r ≡ true → key_of r ≡ None → means (recs w) t ≡ []
+no_key_empty {w} law t TEmpty e is none = means_is (recs w) (lawful_names law) t TEmpty e
+no_key_empty law t (Single _ _ _) e is none = cc
+no_key_empty law t (Deep _ _ _ _ _) e is none = cc
+no_key_empty law t (PushL _ _ _ _ _ _ _ _) e is none = cc
+no_key_empty law t (PushR _ _ _ _ _ _ _ _) e is none = cc
+no_key_empty law t (DeepL _ _ _ _ _ _) e is none = cc
+no_key_empty law t (DeepR _ _ _ _ _ _) e is none = cc
+no_key_empty law t (Concat _ _ _ _ _ _ _) e is none = cc
+no_key_empty law t _ e is none = absurd (true≢false (sym is))
+
+-- the key that a tree caches, by the kind whose keys it has
+pub kind_key : {w : World} → IsLawful w → (k : Kind) (t : ℕ) (r : Rec) → recs w t ≡ Some r → is_tree_rec r ≡ true → has_keys k (recs w) t ≡ true → cached_key r ≡ key_for k (means (recs w) t)
+kind_key {w} law k t r e is h = cached_is k (means (recs w) t) (key_of r) (and_parts (has_key k (means (recs w) t) (key_of r)) _ (sym (keys_is law k t r e) ∙ h)).0 (no_key_empty law t r e is)
 
 -- ---- greatest items
 
@@ -178,21 +201,6 @@ module _ {w : World} (law : IsLawful w) (keyed : Bool) where
   pub tree_keyed : (t : Option Ref) → AreKeyed keyed w (if_there (tree_of t)) → HasKeys keyed w (tree_at t).0
   tree_keyed None h = empty_keyed
   tree_keyed (Some t) h = h.0
-
-  -- the key that a tree caches
-  pub tree_key : (t : ℕ) (r : Rec) → recs w t ≡ Some r → is_tree_rec r ≡ true → HasKeys keyed w t → cached_key r ≡ key_in keyed (means (recs w) t)
-  tree_key t r e is h = cached_is keyed (means (recs w) t) (key_of r) (keyed_of law keyed t r e h).key (λ n. none r e is n)
-    where
-      none : (r : Rec) → recs w t ≡ Some r → is_tree_rec r ≡ true → key_of r ≡ None → means (recs w) t ≡ []
-      none TEmpty k s n = means_is (recs w) (lawful_names law) t TEmpty k
-      none (Single _ _ _) k s n = cc
-      none (Deep _ _ _ _ _) k s n = cc
-      none (PushL _ _ _ _ _ _ _ _) k s n = cc
-      none (PushR _ _ _ _ _ _ _ _) k s n = cc
-      none (DeepL _ _ _ _ _ _) k s n = cc
-      none (DeepR _ _ _ _ _ _) k s n = cc
-      none (Concat _ _ _ _ _ _ _) k s n = cc
-      none _ k s n = absurd (true≢false (sym s))
 
   pub deep_keyed : (p : ℕ) (left middle right : Ref) (z : ℕ) (key : Item) (items : List ℕ) → recs w p ≡ Some (Deep left middle right z key) → means (recs w) p ≡ items → key.0 ≡ key_in keyed items → HasKeys keyed w left.0 → HasKeys keyed w middle.0 → HasKeys keyed w right.0 → HasKeys keyed w p
   deep_keyed p left middle right z key items e i k l m r = keyed_from law keyed p _ e (eq-eqb key.0 _ (k ∙ ap (key_in keyed) (sym i))) (l, (m, (r, tt)))

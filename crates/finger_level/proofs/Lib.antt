@@ -15,6 +15,7 @@ pub mod Tops
 pub mod Funded
 pub mod Keys
 pub mod Keying
+pub mod Measuring
 pub mod Tails
 pub mod NodeRows
 pub mod Betweens

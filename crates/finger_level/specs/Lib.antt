@@ -10,3 +10,4 @@ pub mod NearPuts
 pub mod NearPops
 pub mod NearDraws
 pub mod NearPushes
+pub mod Measured

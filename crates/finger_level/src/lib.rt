@@ -36,6 +36,7 @@
 pub mod concat;
 pub mod few;
 pub mod level;
+pub mod measured;
 pub mod near_draws;
 pub mod near_pops;
 pub mod near_pushes;
@@ -48,6 +49,7 @@ pub mod reads;
 pub use concat::concat_level;
 pub use few::{Few, Group, WeighedFew, Weight};
 pub use level::{Digit, Family, Level, Middle, NodeRow, Nodes, Pushed, Side, places};
+pub use measured::{Cached, measured_tree};
 pub use near_draws::put_drawn;
 pub use near_pops::put_popped;
 pub use near_pushes::{put_pushed, put_pushes};

@@ -2,10 +2,12 @@
 ghost use Rattle.std.specs.Prelude.{Bool, ◌≡◌, ◌<◌, ◌≤◌, ◌+◌, ◌++◌, ℕ, suc, true, map, length, flat_map};
 ghost use Rattle.std.specs.List.{AllByRecursion};
 ghost use Rattle.lazy_rec.specs.declared.places.Ref.{Ref};
+ghost use Rattle.lazy_rec.specs.declared.events.Kind.{Kind};
 ghost use Rattle.lazy_rec.specs.Meaning.{means};
 ghost use Rattle.heap_store.specs.World.{recs, holds};
 ghost use Rattle.heap_store.specs.Completion.{between};
 ghost use Rattle.heap_store.specs.Hand.{IsInHand};
+ghost use Rattle.heap_store.specs.Lawful.{has_keys, key_for};
 ghost use Rattle.heap_store.specs.View.{Quiet};
 ghost use Rattle.finger_level.specs.Few.{few_list, group_list};
 ghost use Rattle.finger_level.specs.Level.{all_of, if_there, tree_of, made_of, items_of_made, digit_list, digit_places, without, shorter, nodes_list, nodes_places, row_list, row_places, middle_of, middle_places};
@@ -136,12 +138,12 @@ fn weigh_pushed<H: Heap>(h: &mut H, es: Pushed, keyed: bool) -> Weight
 }
 
 /// The weight of a tree, a suspension or a value.
-fn weigh_tree<H: Heap>(h: &mut H, t: Ref) -> Weight
+pub(crate) fn weigh_tree<H: Heap>(h: &mut H, t: Ref) -> Weight
     requires { holds (recs (H.view h.old).seen) t.0 is_tree_rec ≡ true }
     ensures quiet { Quiet (H.view h.old) (H.view h.new) }
     ensures size { result.size ≡ length (means (recs (H.view h.old).seen) t.0) }
     ensures small { result.size ≤ 2147483647 }
-    ensures key { (keyed : Bool) → HasKeys keyed (H.view h.old).seen t.0 → result.key.0 ≡ key_in keyed (means (recs (H.view h.old).seen) t.0) }
+    ensures key { (kind : Kind) → has_keys kind (recs (H.view h.old).seen) t.0 ≡ true → result.key.0 ≡ key_for kind (means (recs (H.view h.old).seen) t.0) }
 {
     let rec = h.read(t);
     cached(&rec)

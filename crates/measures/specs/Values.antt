@@ -1,11 +1,16 @@
--- The ranges of measured values, and why a range is kept where neighbours are joined.
-use Rattle.std.specs.Prelude.{◌≡◌, ℕ, ◌+◌, ◌<◌, ◌^◌, max, Bool, true, ◌&&◌, List, ◌∷◌, ◌++◌, sum, nat_le, nat_lt, if◌then◌else◌}
+-- The value of a row of items; the ranges of measured values, and why a range is kept where neighbours are joined.
+use Rattle.std.specs.Prelude.{◌≡◌, ℕ, ◌+◌, ◌<◌, ◌^◌, max, Bool, true, ◌&&◌, List, ◌∷◌, ◌++◌, map, fold, sum, nat_le, nat_lt, if◌then◌else◌}
 use Rattle.std.specs.List.{list_all}
 use Rattle.std.proofs.Common.{arith, sym, ◌∙◌}
 use Rattle.std.proofs.lemmas.Bool.{and_parts, and_from}
 use Rattle.std.proofs.lemmas.Bool.Decides.{nat_tests}
 use Rattle.std.proofs.lemmas.List.Folds.{list_all-append}
 use Rattle.std.proofs.lemmas.List.Sums.{sum_by-append, sum_by-cons}
+use Rattle.lazy_rec.specs.declared.places.Item.{Item}
+
+-- the values of items, joined from left to right
+abbrev pub value_of : (ℕ → ℕ → ℕ) → ℕ → (Item → ℕ) → List Item → ℕ
+value_of joined unit_value item_value items = fold joined unit_value (map item_value items)
 
 -- each is 0, or one more than an item
 abbrev pub is_key : ℕ → Bool

@@ -2,8 +2,9 @@
 //! (Hinze and Paterson, Finger trees: a simple general-purpose data structure, section 4).
 #![tactic(auto)]
 
-ghost use Rattle.std.specs.Prelude.{◌≡◌, ℕ, ◌<◌, ◌^◌, List, [], ◌∷◌, ◌++◌, map, fold};
+ghost use Rattle.std.specs.Prelude.{◌≡◌, ℕ, ◌<◌, ◌^◌, List, [], ◌∷◌, ◌++◌, map};
 ghost use Rattle.lazy_rec.specs.declared.places.Item.{Item};
+ghost use Rattle.measures.specs.Values.{value_of};
 
 use lazy_rec::Item;
 
@@ -61,7 +62,7 @@ pub trait Measure {
 /// The value of a row of items.
 pub fn measured<M: Measure>(items: &[Item]) -> u128
     requires { M.AreValues (map M.item_value items.now) }
-    ensures { result ≡ fold M.joined M.unit_value (map M.item_value items.now) }
+    ensures { result ≡ value_of M.joined M.unit_value M.item_value items.now }
 {
     let mut value = M::unit();
     for item in items {

@@ -7,6 +7,7 @@ use Rattle.heap_store.proofs.GrowthLaws.{grows_trans}
 use Rattle.heap_store.proofs.Steps.{Quiet_trans}
 use Rattle.finger_level.specs.Puts.{push_record}
 use Rattle.heap_store.proofs.FixedPlaces.{above_fixed}
+use Rattle.finger_level.specs.Keyed.{way}
 use Rattle.finger_level.proofs.Weighing.{sorts_of_elements}
 use Rattle.finger_level.proofs.Pushing.{Found, found, nodes_ask, tree_later, size_later, Weighed, weighed, weighed_first, first_spends, later_spends, weighed_later, weighed_put, LaterFits, next_put}
 use Rattle.finger_level.specs.declared.few.Weight.{Weight}
@@ -88,7 +89,7 @@ returns-in-First-clause-keys g c =
     let law0 = (g.met.H.Heap.lawful c.args.h.now).world in
     let law1 = (g.met.H.Heap.lawful c.put_nodes-es.new.h).world in
     let law2 = (g.met.H.Heap.lawful c.put.new.self).world in
-    λ hn ht. rw p.place (pushed_keyed law0 law1 law2 c.put_nodes-es.ensures.put.laid.filled.grows c.weigh_pushed-above.ensures.quiet.grows (grows_trans c.weigh_tree-below.ensures.quiet.grows p.put.grows) c.args.keyed c.args.side c.args.tree c.args.nodes c.put_nodes-es.result c.tree_or_empty-tree.result c.next-origin.result 0 (record { size = c.weigh_pushed-above.result.size + c.weigh_tree-below.result.size; key = record { 0 = c.max.result } }) c.put_nodes-es.new.run.next c.weigh_pushed-above.result.key.0 c.weigh_tree-below.result.key.0 c.tree_or_empty-tree.ensures (p.put.here ∙ ap Some c.suspension.ensures) c.put_nodes-es.ensures.keys c.weigh_pushed-above.ensures.key (c.weigh_tree-below.ensures.key c.args.keyed) c.max.ensures hn ht)
+    λ hn ht. rw p.place (pushed_keyed law0 law1 law2 c.put_nodes-es.ensures.put.laid.filled.grows c.weigh_pushed-above.ensures.quiet.grows (grows_trans c.weigh_tree-below.ensures.quiet.grows p.put.grows) c.args.keyed c.args.side c.args.tree c.args.nodes c.put_nodes-es.result c.tree_or_empty-tree.result c.next-origin.result 0 (record { size = c.weigh_pushed-above.result.size + c.weigh_tree-below.result.size; key = record { 0 = c.max.result } }) c.put_nodes-es.new.run.next c.weigh_pushed-above.result.key.0 c.weigh_tree-below.result.key.0 c.tree_or_empty-tree.ensures (p.put.here ∙ ap Some c.suspension.ensures) c.put_nodes-es.ensures.keys c.weigh_pushed-above.ensures.key (c.weigh_tree-below.ensures.key (way c.args.keyed)) c.max.ensures hn ht)
 
 pub returns-in-Later-clause-keys : goal.returns-in-Later-clause-keys
 returns-in-Later-clause-keys g c =
@@ -96,4 +97,4 @@ returns-in-Later-clause-keys g c =
     let law0 = (g.met.H.Heap.lawful c.args.h.now).world in
     let law1 = (g.met.H.Heap.lawful c.put_nodes-es.new.h).world in
     let law2 = (g.met.H.Heap.lawful c.put-in-Later.new.self).world in
-    λ hn ht. rw p.place (pushed_keyed law0 law1 law2 c.put_nodes-es.ensures.put.laid.filled.grows c.weigh_pushed-above.ensures.quiet.grows (grows_trans c.weigh_tree-below.ensures.quiet.grows p.put.grows) c.args.keyed c.args.side c.args.tree c.args.nodes c.put_nodes-es.result c.tree_or_empty-tree.result c.in-Later.origin (c.in-Later.off + 1) (record { size = c.weigh_pushed-above.result.size + c.weigh_tree-below.result.size; key = record { 0 = c.max.result } }) c.put_nodes-es.new.run.next c.weigh_pushed-above.result.key.0 c.weigh_tree-below.result.key.0 c.tree_or_empty-tree.ensures (p.put.here ∙ ap Some c.suspension-in-Later.ensures) c.put_nodes-es.ensures.keys c.weigh_pushed-above.ensures.key (c.weigh_tree-below.ensures.key c.args.keyed) c.max.ensures hn ht)
+    λ hn ht. rw p.place (pushed_keyed law0 law1 law2 c.put_nodes-es.ensures.put.laid.filled.grows c.weigh_pushed-above.ensures.quiet.grows (grows_trans c.weigh_tree-below.ensures.quiet.grows p.put.grows) c.args.keyed c.args.side c.args.tree c.args.nodes c.put_nodes-es.result c.tree_or_empty-tree.result c.in-Later.origin (c.in-Later.off + 1) (record { size = c.weigh_pushed-above.result.size + c.weigh_tree-below.result.size; key = record { 0 = c.max.result } }) c.put_nodes-es.new.run.next c.weigh_pushed-above.result.key.0 c.weigh_tree-below.result.key.0 c.tree_or_empty-tree.ensures (p.put.here ∙ ap Some c.suspension-in-Later.ensures) c.put_nodes-es.ensures.keys c.weigh_pushed-above.ensures.key (c.weigh_tree-below.ensures.key (way c.args.keyed)) c.max.ensures hn ht)

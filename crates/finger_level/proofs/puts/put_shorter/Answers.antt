@@ -6,6 +6,7 @@ use Rattle.heap_store.specs.View.{Quiet}
 use Rattle.heap_store.proofs.GrowthLaws.{grows_trans}
 use Rattle.heap_store.proofs.Steps.{Quiet_trans}
 use Rattle.finger_level.specs.Level.{digit_list}
+use Rattle.finger_level.specs.Keyed.{way}
 use Rattle.finger_level.proofs.Weighing.{sorts_of_elements}
 use Rattle.finger_level.proofs.Builds.{elements_up, items_up}
 use Rattle.finger_level.proofs.Pushing.{tree_later}
@@ -77,4 +78,4 @@ returns-clause-keys g c =
     let q = quiet g d in
     let put = shorter_put law c.args.side c.args.left c.args.tree c.args.right c.args.family c.requires q (g.met.H.Heap.lawful c.put_ends.new.h).world c.put_ends.ensures.put in
     λ hl ht hr. c.put_ends.ensures.keys (digit_keyed_up law law3 q.grows c.args.keyed c.args.left hl) (keyed_up law q.grows c.args.keyed c.args.tree.0 ht) (digit_keyed_up law law3 q.grows c.args.keyed c.args.right hr)
-    (shorter_key law c.weigh_few-first.ensures.quiet.grows (grows_trans c.weigh_few-first.ensures.quiet.grows c.weigh_tree-middle.ensures.quiet.grows) c.args.keyed c.args.side c.args.left c.args.tree c.args.right _ _ _ _ _ put.items (rw c.few_of-one.ensures at c.weigh_few-first.ensures.key) (c.weigh_tree-middle.ensures.key c.args.keyed) (rw c.few_of-other.ensures at c.weigh_few-last.ensures.key) (rw c.max-ends.ensures at c.max.ensures) hl ht hr)
+    (shorter_key law c.weigh_few-first.ensures.quiet.grows (grows_trans c.weigh_few-first.ensures.quiet.grows c.weigh_tree-middle.ensures.quiet.grows) c.args.keyed c.args.side c.args.left c.args.tree c.args.right _ _ _ _ _ put.items (rw c.few_of-one.ensures at c.weigh_few-first.ensures.key) (c.weigh_tree-middle.ensures.key (way c.args.keyed)) (rw c.few_of-other.ensures at c.weigh_few-last.ensures.key) (rw c.max-ends.ensures at c.max.ensures) hl ht hr)

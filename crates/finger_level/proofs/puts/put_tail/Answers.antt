@@ -10,6 +10,7 @@ use Rattle.finger_level.specs.declared.few.Weight.{Weight}
 use Rattle.finger_level.specs.declared.level.Family.TheVariants.{Later}
 use Rattle.finger_level.specs.Level.{digit_list}
 use Rattle.finger_level.specs.Puts.{tail_record, AreElements}
+use Rattle.finger_level.specs.Keyed.{way}
 use Rattle.finger_level.proofs.Weighing.{sorts_of_elements}
 use Rattle.finger_level.proofs.Laying.{are_up}
 use Rattle.finger_level.proofs.Pushing.{LaterFits, tree_later}
@@ -85,7 +86,7 @@ returns-in-First-clause-keys g c =
     let law2 = (g.met.H.Heap.lawful c.put.new.self).world in
     let dp = c.put_digit-digit.ensures.put in
     let g1 = grows_trans c.weigh_tree-inner.ensures.quiet.grows p.put.grows in
-    λ ht hd. rw p.place (tail_keyed law0 law1 law2 dp.laid.filled.grows c.weigh_few-near.ensures.quiet.grows g1 c.args.keyed c.args.side c.args.tree c.put_digit-digit.result c.next-origin.result c.args.part 0 (record { size = c.weigh_few-near.result.size + c.weigh_tree-inner.result.size; key = record { 0 = c.max.result } }) c.put_digit-digit.new.run.next c.weigh_few-near.result.key.0 c.weigh_tree-inner.result.key.0 dp.shown (p.put.here ∙ ap Some c.tail.ensures) c.put_digit-digit.ensures.keys (rw c.few_of-few.ensures at c.weigh_few-near.ensures.key) (c.weigh_tree-inner.ensures.key c.args.keyed) c.max.ensures ht hd)
+    λ ht hd. rw p.place (tail_keyed law0 law1 law2 dp.laid.filled.grows c.weigh_few-near.ensures.quiet.grows g1 c.args.keyed c.args.side c.args.tree c.put_digit-digit.result c.next-origin.result c.args.part 0 (record { size = c.weigh_few-near.result.size + c.weigh_tree-inner.result.size; key = record { 0 = c.max.result } }) c.put_digit-digit.new.run.next c.weigh_few-near.result.key.0 c.weigh_tree-inner.result.key.0 dp.shown (p.put.here ∙ ap Some c.tail.ensures) c.put_digit-digit.ensures.keys (rw c.few_of-few.ensures at c.weigh_few-near.ensures.key) (c.weigh_tree-inner.ensures.key (way c.args.keyed)) c.max.ensures ht hd)
 
 pub returns-in-Later-clause-keys : goal.returns-in-Later-clause-keys
 returns-in-Later-clause-keys g c =
@@ -95,4 +96,4 @@ returns-in-Later-clause-keys g c =
     let law2 = (g.met.H.Heap.lawful c.put-in-Later.new.self).world in
     let dp = c.put_digit-digit.ensures.put in
     let g1 = grows_trans c.weigh_tree-inner.ensures.quiet.grows p.put.grows in
-    λ ht hd. rw p.place (tail_keyed law0 law1 law2 dp.laid.filled.grows c.weigh_few-near.ensures.quiet.grows g1 c.args.keyed c.args.side c.args.tree c.put_digit-digit.result c.in-Later.origin c.args.part (c.in-Later.off + 1) (record { size = c.weigh_few-near.result.size + c.weigh_tree-inner.result.size; key = record { 0 = c.max.result } }) c.put_digit-digit.new.run.next c.weigh_few-near.result.key.0 c.weigh_tree-inner.result.key.0 dp.shown (p.put.here ∙ ap Some c.tail-in-Later.ensures) c.put_digit-digit.ensures.keys (rw c.few_of-few.ensures at c.weigh_few-near.ensures.key) (c.weigh_tree-inner.ensures.key c.args.keyed) c.max.ensures ht hd)
+    λ ht hd. rw p.place (tail_keyed law0 law1 law2 dp.laid.filled.grows c.weigh_few-near.ensures.quiet.grows g1 c.args.keyed c.args.side c.args.tree c.put_digit-digit.result c.in-Later.origin c.args.part (c.in-Later.off + 1) (record { size = c.weigh_few-near.result.size + c.weigh_tree-inner.result.size; key = record { 0 = c.max.result } }) c.put_digit-digit.new.run.next c.weigh_few-near.result.key.0 c.weigh_tree-inner.result.key.0 dp.shown (p.put.here ∙ ap Some c.tail-in-Later.ensures) c.put_digit-digit.ensures.keys (rw c.few_of-few.ensures at c.weigh_few-near.ensures.key) (c.weigh_tree-inner.ensures.key (way c.args.keyed)) c.max.ensures ht hd)

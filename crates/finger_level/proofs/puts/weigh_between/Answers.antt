@@ -2,6 +2,7 @@ use Rattle.std.proofs.Common.{◌∙◌, arith}
 use Rattle.heap_store.proofs.GrowthLaws.{grows_trans}
 use Rattle.heap_store.proofs.Steps.{Quiet_trans}
 use Rattle.finger_level.specs.Reads.{is_tree_rec}
+use Rattle.finger_level.specs.Keyed.{way}
 use Rattle.finger_level.proofs.Betweens.{there_later, size_there, weighed_key}
 use Rattle.finger_level.proofs.puts.weigh_between.Goals as goal
 
@@ -40,4 +41,4 @@ returns-clause-size g c =
 pub returns-clause-key : goal.returns-clause-key
 returns-clause-key g c =
     let law = (g.met.H.Heap.lawful c.args.h.now).world in
-    λ hl hes hr. rw c.max-near.ensures at c.max.ensures ∙ weighed_key law c.weigh_few-list.ensures.quiet.grows (grows_trans c.weigh_few-list.ensures.quiet.grows c.weigh_tree-first.ensures.quiet.grows) c.args.keyed c.args.left.0 c.args.right.0 _ _ _ _ c.weigh_few-list.ensures.key (c.weigh_tree-first.ensures.key c.args.keyed) (c.weigh_tree-last.ensures.key c.args.keyed) hl hes hr
+    λ hl hes hr. rw c.max-near.ensures at c.max.ensures ∙ weighed_key law c.weigh_few-list.ensures.quiet.grows (grows_trans c.weigh_few-list.ensures.quiet.grows c.weigh_tree-first.ensures.quiet.grows) c.args.keyed c.args.left.0 c.args.right.0 _ _ _ _ c.weigh_few-list.ensures.key (c.weigh_tree-first.ensures.key (way c.args.keyed)) (c.weigh_tree-last.ensures.key (way c.args.keyed)) hl hes hr

@@ -1,0 +1,6 @@
+use Rattle.std.proofs.Common.{sym, ◌∙◌}
+use Rattle.finger_level.proofs.Measuring.{last}
+use Rattle.finger_level.proofs.measured.LastKeyCached.of_weight.Goals as goal
+
+pub returns : goal.returns
+returns c = λ xs size key. c.after_key.ensures ∙ (rw (size, key) (sym (last xs)))
