@@ -16,7 +16,7 @@ use Rattle.std.proofs.lemmas.List.{length-map, get_or_past, get_or-map, get_or-t
 use Rattle.core.specs.Float.Numeral.{digits_len}
 use Rattle.core.proofs.dec2flt.DigitsLemmas.{every_below}
 use Rattle.core.proofs.dec2flt.Eight.{eight_at, shifted_is}
-use Rattle.script_text.specs.FrontDigits.{worth, AreEightDigits, AreWorths}
+use Rattle.script_text.specs.FrontDigits.{worth, AreEightDigits, AreWorths, IsFront}
 use Rattle.script_text.proofs.Cuts.{digit_read, all_digits}
 
 -- ---- which are digits
@@ -35,10 +35,10 @@ module _ (bytes worths : List ℕ) (typed : (k : ℕ) → get_or bytes k 0 < 256
   worth_at i few =
       ap (λ ws. get_or ws i 0) are ∙ (get_or-map worth (take 16 bytes) i 0 0 (omega (arith, length-take-le 16 bytes long)) ∙ ap worth (get_or-take 16 bytes i 0 few))
 
-  pub digit_each : (count : ℕ) → count ≤ 16 → ((i : ℕ) → i < count → get_or worths i 0 < 10) → (i : ℕ) → i < count → is_ascii_digit (get_or bytes i 0) ≡ true
+  digit_each : (count : ℕ) → count ≤ 16 → ((i : ℕ) → i < count → get_or worths i 0 < 10) → (i : ℕ) → i < count → is_ascii_digit (get_or bytes i 0) ≡ true
   digit_each count few low i l = digit_there (get_or bytes i 0) (typed i) (omega (arith, low i l, worth_at i (omega arith)))
 
-  pub eight_worths : (eight : ℕ) → eight ≡ number_l 256 (take 8 worths) → AreWorths eight (take 8 bytes)
+  eight_worths : (eight : ℕ) → eight ≡ number_l 256 (take 8 worths) → AreWorths eight (take 8 bytes)
   eight_worths eight is =
       let those = eight_at bytes 0 typed (omega arith) in
       record {
@@ -62,12 +62,12 @@ low_ones worths m t long is count =
     let few : trailing_ones w64 m ≤ 16 = ⊎_elim (λ more. absurd (true≢false (sym (set 16 more) ∙ get_or_past low 16 false (omega (arith, as_many))))) (λ le. le) (cases_lt 16 (trailing_ones w64 m)) in
     (omega (arith, count, few), λ i l. ltb-true (get_or worths i 0) 10 (sym (get_or-map (λ w. ltb w 10) worths i 0 false (omega (arith, long, count, few))) ∙ set i (omega (arith, count))))
 
-pub all_front : (p : ℕ → Bool) (xs : List ℕ) (n : ℕ) → n ≤ length xs → ((i : ℕ) → i < n → p (get_or xs i 0) ≡ true) → list_all p (take n xs) ≡ true
+all_front : (p : ℕ → Bool) (xs : List ℕ) (n : ℕ) → n ≤ length xs → ((i : ℕ) → i < n → p (get_or xs i 0) ≡ true) → list_all p (take n xs) ≡ true
 all_front p xs zero h each = refl
 all_front p [] (suc n) h each = absurd (omega arith)
 all_front p (x ∷ xs) (suc n) h each = rw (each 0 (omega arith)) (all_front p xs n (omega arith) (λ i l. each (suc i) (omega arith)))
 
-pub front_all : (bytes : List ℕ) (n : ℕ) → n ≤ 8 → 16 ≤ length bytes → ((i : ℕ) → i < n → is_ascii_digit (get_or bytes i 0) ≡ true) → list_all is_ascii_digit (take n (take 8 bytes)) ≡ true
+front_all : (bytes : List ℕ) (n : ℕ) → n ≤ 8 → 16 ≤ length bytes → ((i : ℕ) → i < n → is_ascii_digit (get_or bytes i 0) ≡ true) → list_all is_ascii_digit (take n (take 8 bytes)) ≡ true
 front_all bytes n few long each = ap (list_all is_ascii_digit) (take-take n 8 bytes few) ∙ all_front is_ascii_digit bytes n (omega (arith, long)) each
 
 -- ---- their value
@@ -99,7 +99,7 @@ pub record IsNext (bytes : List ℕ) (i v : ℕ) : Type 0 where
   pub small : v < 1000000000
   pub value : v * 10 + (get_or bytes i 0 - 48) ≡ digits_value 10 (take (i + 1) bytes)
 
-pub next_digit : (bytes : List ℕ) (i v : ℕ) → i < length bytes → i ≤ 9 → ((k : ℕ) → k < i + 1 → is_ascii_digit (get_or bytes k 0) ≡ true) → v ≡ digits_value 10 (take i bytes) → IsNext bytes i v
+next_digit : (bytes : List ℕ) (i v : ℕ) → i < length bytes → i ≤ 9 → ((k : ℕ) → k < i + 1 → is_ascii_digit (get_or bytes k 0) ≡ true) → v ≡ digits_value 10 (take i bytes) → IsNext bytes i v
 next_digit bytes i v lt few each is =
     let read = digit_read (get_or bytes i 0) (each i (omega arith)) in
     let more = digits_value_more 10 bytes i lt in
@@ -113,3 +113,30 @@ next_digit bytes i v lt few each is =
       small = omega (arith, is, below, most);
       value = omega (arith, more, read.2, is);
     }
+
+-- ---- the digits that are found
+
+-- bytes begin with so many digits at least, and the first eight have these worths
+pub record AreFront (bytes : List ℕ) (count eight : ℕ) : Type 0 where
+  pub long : 16 ≤ length bytes
+  pub each : (i : ℕ) → i < count → is_ascii_digit (get_or bytes i 0) ≡ true
+  pub worths : AreWorths eight (take 8 bytes)
+
+pub are_front : (bytes worths : List ℕ) (count eight : ℕ) → ((k : ℕ) → get_or bytes k 0 < 256) → 16 ≤ length bytes → worths ≡ map worth (take 16 bytes) → count ≤ 16 → ((i : ℕ) → i < count → get_or worths i 0 < 10) → eight ≡ number_l 256 (take 8 worths) → AreFront bytes count eight
+are_front bytes worths count eight typed long are few low is = record { long = long; each = digit_each bytes worths typed long are count few low; worths = eight_worths bytes worths typed long are eight is }
+
+module _ {bytes : List ℕ} {count eight : ℕ} (front : AreFront bytes count eight) where
+  -- what is read of the first eight is the value of so many bytes
+  pub front_value : (n v : ℕ) → n ≤ 8 → n ≤ count → ((bs : List ℕ) → AreWorths eight bs → list_all is_ascii_digit (take n bs) ≡ true → v ≡ digits_value 10 (take n bs)) → v ≡ digits_value 10 (take n bytes)
+  front_value n v few within value = value (take 8 bytes) front.worths (front_all bytes n few front.long (λ i l. front.each i (omega (arith, within, l)))) ∙ ap (digits_value 10) (take-take n 8 bytes few)
+
+  pub front_next : (i v : ℕ) → i ≤ 9 → i < count → v ≡ digits_value 10 (take i bytes) → IsNext bytes i v
+  front_next i v few within is = next_digit bytes i v (omega (arith, few, front.long)) few (λ k l. front.each k (omega (arith, within, l))) is
+
+  pub front_is : (n v : ℕ) → 1 ≤ n → n ≤ 10 → n ≤ count → v ≡ digits_value 10 (take n bytes) → IsFront bytes v n
+  front_is n v some few within is = record {
+    some = some;
+    few = few;
+    digits = all_front is_ascii_digit bytes n (omega (arith, few, front.long)) (λ i l. front.each i (omega (arith, within, l)));
+    value = is;
+  }
