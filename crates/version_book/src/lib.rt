@@ -63,6 +63,10 @@
 //! | `heap` | `min` | b | 1 at most | yes |
 //! | `heap` | `delmin` | 2b | 2b + 3 at most | yes |
 //! | `heap` | `meld` | bits(n) + bits(m) + 1 | 2 at most | no |
+//! | `seq` | `new` | 0 | 0 | no |
+//! | `seq` | `pushl`, `pushr` | bits(n + 1) | 5 at most | no |
+//! | `seq` | `popl`, `popr` | b | 4 at most | yes |
+//! | `seq` | `first`, `last` | 0 | 0 | no |
 #![tactic(auto)]
 
 pub mod answers;
