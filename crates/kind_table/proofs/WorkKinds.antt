@@ -1,5 +1,5 @@
 -- One kind's pending work as work of any kind.
-use Rattle.std.proofs.Common.{◌≡◌, ℕ, refl, sym, Bool, true, Some}
+use Rattle.std.proofs.Common.{◌≡◌, ℕ, refl, sym, ◌∙◌, Bool, true, Some}
 use Rattle.std.proofs.lemmas.Bool.{true≢false, and_parts, and_from}
 use Rattle.lazy_rec.specs.declared.records.Rec.{Rec}
 use Rattle.lazy_rec.specs.declared.records.Rec.TheVariants.{Append, Reverse, BankRot, RtRot, HeapInsert, HeapMerge, PushL, PushR, DeepL, DeepR, Concat}
@@ -10,6 +10,7 @@ use Rattle.heap_store.specs.World.{World, recs}
 use Rattle.heap_store.specs.Lawful.{is_any_bank_rotation, is_any_rt_rotation}
 use Rattle.heap_store.specs.OneStage.{nothing_told}
 use Rattle.heap_store.specs.Jobs.{Readiness, Prepared, IsBuildable}
+use Rattle.heap_store.proofs.ShowLaws.{one_value}
 use Rattle.lazy_rec.specs.declared.places.Ref.{Ref}
 use Rattle.heap_store.specs.Span.{Span}
 use Rattle.heap_store.specs.View.{View}
@@ -128,12 +129,9 @@ finger_told w s nodes (DeepR _ _ _ _ _ _) h t = t
 finger_told w s nodes (Concat _ _ _ _ _ _ _) h t = t
 finger_told w s nodes _ h t = absurd (true≢false (sym h))
 
-one_record : (w : World) (p : ℕ) (a b : Rec) → recs w p ≡ Some a → recs w p ≡ Some b → a ≡ b
-one_record w p a b h k = cc
-
 pub finger_buildable : {v : View} {s : Ref} {run : Span} (r : Rec) → recs v.seen s.0 ≡ Some r → is_finger_work r ≡ true → IsBuildable told_by v s run → IsBuildable LevelTold v s run
 finger_buildable {v} {s} r here is k =
-    let same : k.ready.rec ≡ r = one_record v.seen s.0 k.ready.rec r (k.base_grows.records _ _ k.ready.here) here in
+    let same : k.ready.rec ≡ r = one_value _ _ (sym (k.base_grows.records _ _ k.ready.here) ∙ here) in
     record {
       base = k.base;
       base_lawful = k.base_lawful;
