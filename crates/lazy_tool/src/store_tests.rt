@@ -52,7 +52,7 @@ const SCRIPTS: [(u32, &str, (u64, u64)); 5] = [
 ];
 
 /// The events over the store of one thread.
-fn on_plain(alloc: Global, nodes: u32, events: &[Event]) -> Result<PlainHeap, NoMemory>
+pub(crate) fn on_plain(alloc: Global, nodes: u32, events: &[Event]) -> Result<PlainHeap, NoMemory>
     requires nodes { nodes ≤ MOST_NODES }
     requires script { IsScript events.now }
     requires built { AreBuilt events.now }
