@@ -19,7 +19,7 @@ use Rattle.heap_store.specs.Rows.{row_at, is_ended_at}
 use Rattle.heap_store.specs.Growth.{Grows}
 use Rattle.heap_store.specs.Lawful.{IsLawful}
 use Rattle.heap_store.specs.Hand.{Hand, IsLawfulHand, contains, claim_places, holds_claim, without_claim, hand_won, has_no_next}
-use Rattle.heap_store.specs.Shared.{one_if}
+use Rattle.heap_store.specs.Shared.{one_if, added}
 use Rattle.heap_store.specs.Budget.{IsBalanced, is_funded}
 use Rattle.lazy_rec.proofs.TestLaws.{implies_to}
 use Rattle.heap_store.proofs.ShowLaws.{one_value, state_grows, state-same, recs-show}
@@ -43,6 +43,7 @@ use Rattle.word_store.specs.Claims.{MaySpend}
 use Rattle.word_store.specs.Plays.{sight_after, spent_hand}
 use Rattle.word_store.proofs.Sums.{zero_false, pos_true, false_by, term_le}
 use Rattle.word_store.proofs.Moves.{St, Move, sees_now}
+use Rattle.word_store.proofs.Told.{tells_same}
 use Rattle.word_store.proofs.Seats.{others_claim}
 use Rattle.word_store.proofs.Balances.{won_balance, completed_balance, given_up_balance}
 use Rattle.word_store.proofs.PlaceSteps.{full_if, calm_if, few_if}
@@ -127,6 +128,8 @@ module _ (k : Size) (s : St) (o : IsKept k s) (id : ℕ) (v : Sight) (me : get_e
           works = ap₂ (λ ns os. works_on_names (record h { names = ns; open_rows = os })) names open_rows ∙ f.works;
           mine = λ i t e c. ap (λ xs. contains xs i) mine ∙ f.mine i t (sym (row_same i) ∙ e) c;
           vain = λ some. f.vain (ap Rattle.std.specs.Prelude.is_some (sym vain) ∙ some);
+          vain_rows = o.vain_rows;
+          tells = tells_same (subst (Grows w) (sym now) grows) o.told v.wasted v.wasted v.hand.vain h.vain (ap (λ z. v.wasted + added z) (sym vain));
           hands = λ j u ne at. subst (λ y. IsLawfulHand y u.hand) (sym now) (hands j u ne at);
           others = λ j u ne at i t e c. (o.seats j u at).mine i t (sym (row_same i) ∙ e) c;
           claims = λ q. ⊎_elim

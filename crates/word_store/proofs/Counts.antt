@@ -76,35 +76,6 @@ count_given (p ∷ ps) xs n few once each =
     below true e l = Rattle.std.proofs.lemmas.Bool.ltb-true p n e
     below false e l = absurd (omega (arith, l, ap one_if e))
 
-all_there : (xs : List (Option Node)) (n : ℕ) → n ≤ length xs → ((p : ℕ) → p < n → is_there (slice_index_or xs p None) ≡ true) → n ≤ count_by is_there xs
-all_there [] n few each = omega (arith, few)
-all_there (x ∷ xs) zero few each = omega arith
-all_there (x ∷ xs) (suc n) few each =
-    let rest = all_there xs n (omega (arith, few)) (λ p l. each (suc p) (omega (arith, l))) in
-    omega (arith, sum_by-cons (λ y. cond (is_there y) 1 0) x xs, rest, ap {B = ℕ} (λ b. cond b 1 0) (each 0 (omega arith)))
-
-filler : Node
-filler = record { rec = Nil; state = Unforced 0 }
-
-not_first : (p : ℕ) (ps : List ℕ) (q : ℕ) (x : Option Node) → q ≢ p → (contains (p ∷ ps) q || is_there x) ≡ true → (contains ps q || is_there x) ≡ true
-not_first p ps q x ne covered = ap (λ z. (z || contains ps q) || is_there x) (sym (ne_eqb p q (λ z. ne (sym z)))) ∙ covered
-
-set_covered : (p : ℕ) (ps : List ℕ) (xs : List (Option Node)) (n : ℕ) → p < length xs → ((q : ℕ) → q < n → (contains (p ∷ ps) q || is_there (slice_index_or xs q None)) ≡ true)
-    → (q : ℕ) → q < n → (contains ps q || is_there (slice_index_or (slice_set xs p (Some filler)) q None)) ≡ true
-set_covered p ps xs n low each q l = ⊎_elim
-    (λ eq. or_right (contains ps q) _ (ap (λ z. is_there (slice_index_or (slice_set xs p (Some filler)) z None)) eq ∙ ap is_there (get_or-set_same xs p (Some filler) None low)))
-    (λ ne. ap (λ z. contains ps q || is_there z) (get_or-set_other xs p q (Some filler) None ne) ∙ not_first p ps q (slice_index_or xs q None) ne (each q l))
-    (cases_eq q p)
-
--- where each place below a number is there or in a list, these are as many at least
-pub count_covered : (rs : List ℕ) (xs : List (Option Node)) (n : ℕ) → n ≤ length xs → ((p : ℕ) → p < n → (contains rs p || is_there (slice_index_or xs p None)) ≡ true) → n ≤ count_by is_there xs + length rs
-count_covered [] xs n few each = let k = all_there xs n few each in omega (arith, k)
-count_covered (p ∷ ps) xs n few each = ⊎_elim
-    (λ low. (let more = count_covered ps (slice_set xs p (Some filler)) n (omega (arith, few, length-set xs p (Some filler))) (set_covered p ps xs n low each) in
-    omega (arith, more, sum_by-set (λ x. cond (is_there x) 1 0) xs p (Some filler) None low)))
-    (λ high. (let more = count_covered ps xs n few (λ q l. not_first p ps q (slice_index_or xs q None) (λ z. omega (arith, z, l, few, high)) (each q l)) in omega (arith, more)))
-    (cases_lt p (length xs))
-
 -- distinct places that show nothing, and those that show something, are at most all
 pub count_free : (rs : List ℕ) (xs : List (Option Node)) → all_distinct rs ≡ true → ((p : ℕ) → contains rs p ≡ true → (p < length xs) × (slice_index_or xs p None ≡ None)) → count_by is_there xs + length rs ≤ length xs
 count_free [] xs once free = let k = count_by-le-length is_there xs in omega (arith, k)

@@ -15,7 +15,7 @@ use Rattle.heap_store.specs.Hand.{Hand, contains, all_distinct, holds_claim, is_
 use Rattle.heap_store.specs.Plain.{plain_world, five_records, no_refusal}
 use Rattle.word_world.proofs.Opening.{opened_world}
 use Rattle.word_store.specs.Views.{view_with}
-use Rattle.heap_store.specs.Shared.{one_if}
+use Rattle.heap_store.specs.Shared.{one_if, added}
 use Rattle.heap_store.specs.Budget.{IsBalanced, credits_brought, sum_records}
 use Rattle.word_store.specs.declared.sight.Sight.{Sight}
 use Rattle.word_store.specs.declared.sight.Size.{Size}
@@ -132,6 +132,12 @@ module _ (k : Size) (nodes rows callers c : ℕ) (cs : List ℕ) (id : ℕ) (s :
     drawn = omega (arith, o.drawn, total (λ (u : Sight). u.wasted));
     full = λ any. o.full (omega (arith, any, total (λ (u : Sight). u.wasted)));
     short = λ any. o.short (omega (arith, any, total (λ (u : Sight). u.wasted)));
+    vain_rows = o.vain_rows;
+    told = record {
+      once = o.told.once;
+      full = o.told.full;
+      sum = omega (arith, o.told.sum, total (λ (u : Sight). u.wasted), same_total (λ (h : Hand). added h.vain) refl);
+    };
     few = λ past. (let l = o.few past in omega (arith, l, total (may_draw k.rows), split_draw (ltb (slice_index v.words 1) k.rows)));
     calm = λ one. (let m = o.calm one in (omega (arith, m.0, total (λ (u : Sight). u.wasted)), m.1));
     lost = o.lost;

@@ -1,12 +1,14 @@
 -- Closing: the seats are joined, and what the last one then knows of the store.
 use Rattle.std.proofs.Common.{◌≡◌, ℕ, zero, suc, ◌+◌, ◌<◌, List, [], ◌∷◌, ◌++◌, length, refl, sym, ap, ap₂, ◌∙◌, arith, subst, false, Some, None}
-use Rattle.std.specs.Prelude.{slice_index, slice_set, slice_get, map}
+use Rattle.std.specs.Prelude.{slice_index, slice_set, slice_get, map, sum_by}
 use Rattle.std.proofs.lemmas.List.{set-get_or, length-append}
+use Rattle.std.proofs.lemmas.List.Sums.{sum_by-cons}
 use mathlib.Core.Option.{some}
 use lib.ListN.{get_elem?}
 use Rattle.atomic_table.specs.Table.{keeps, Allows, Joins}
 use Rattle.heap_store.specs.Growth.{Grows}
 use Rattle.heap_store.specs.Hand.{Hand, contains}
+use Rattle.heap_store.specs.Shared.{added}
 use Rattle.word_world.specs.Words.{world_of, word_count}
 use Rattle.word_world.proofs.Worlds.{contains-append}
 use Rattle.word_store.specs.declared.sight.Sight.{Sight}
@@ -18,7 +20,7 @@ use Rattle.word_store.proofs.Moves.{Move, board}
 use Rattle.word_store.proofs.Seats.{moves}
 use Rattle.word_store.proofs.Soundness.{sound_of, whole_of}
 use Rattle.word_store.proofs.PlaceSteps.{looks}
-use Rattle.word_store.proofs.Joining.{joins_kept}
+use Rattle.word_store.proofs.Joining.{joins_kept, both_added}
 use Rattle.word_store.proofs.Allowed.{set_here}
 
 -- ---- the steps
@@ -89,6 +91,10 @@ gathered_told v (u ∷ ws) (suc j) w at = let t = gathered_told v ws j w at in (
 pub gathered_names : (v : Sight) (ws : List Sight) (i : ℕ) → contains v.hand.names i ≡ false → ((j : ℕ) (w : Sight) → slice_get ws j ≡ Some w → contains w.hand.names i ≡ false) → contains (gathered v ws).hand.names i ≡ false
 gathered_names v [] i none each = none
 gathered_names v (w ∷ ws) i none each = rw (contains-append (gathered v ws).hand.names w.hand.names i, gathered_names v ws i none (λ j u at. each (suc j) u at), each 0 w refl) refl
+
+pub gathered_vain : (v : Sight) (ws : List Sight) → added (gathered v ws).hand.vain ≡ added v.hand.vain + sum_by (λ (w : Sight). added w.hand.vain) ws
+gathered_vain v [] = omega arith
+gathered_vain v (w ∷ ws) = omega (arith, both_added (gathered v ws).hand.vain w.hand.vain, gathered_vain v ws, sum_by-cons (λ (u : Sight). added u.hand.vain) w ws)
 
 -- ---- the passes that are taken in, the last first
 

@@ -15,14 +15,14 @@ use Rattle.heap_store.specs.declared.claims.OpenRow.{OpenRow}
 use Rattle.heap_store.specs.World.{is_done}
 use Rattle.heap_store.specs.Growth.{Grows}
 use Rattle.heap_store.specs.Hand.{Hand, IsLawfulHand, contains, all_distinct, holds_claim, is_built, claim_places, is_claim_well, is_marked_well}
-use Rattle.heap_store.specs.Shared.{one_if}
+use Rattle.heap_store.specs.Shared.{one_if, added}
 use Rattle.heap_store.specs.Budget.{IsBalanced, credits_brought, sum_records}
 use Rattle.word_world.specs.Words.{world_of, word_count}
 use Rattle.word_world.proofs.Worlds.{contains-append, append_distinct}
 use Rattle.word_store.specs.declared.sight.Sight.{Sight}
 use Rattle.word_store.specs.declared.sight.Size.{Size}
 use Rattle.word_store.specs.Rule.{IsKept, IsSeat, shows, running, hands_of, empty_hand, may_draw, plan_of}
-use Rattle.word_store.specs.Joined.{MayClose, joined, joined_hand, first_full, no_sight}
+use Rattle.word_store.specs.Joined.{MayClose, joined, joined_hand, both_vain, no_sight}
 use Rattle.word_store.proofs.Sums.{at_set, sum-changed, terms_le, one_true, one_most, false_by}
 use Rattle.word_store.proofs.Moves.{St}
 use Rattle.word_store.proofs.Soundness.{sum-hands}
@@ -40,9 +40,14 @@ one_or : (a b : Bool) → (a ≡ true → b ≡ false) → one_if (a || b) ≡ o
 one_or true b apart = ap (λ x. 1 + one_if x) (sym (apart refl))
 one_or false b apart = omega arith
 
-either_full : (a b : Option Full) → is_some (first_full a b) ≡ true → (is_some a ≡ true) ⊎ (is_some b ≡ true)
-either_full None b e = inr e
-either_full (Some a) b e = inl refl
+either_vain : (a b : Option Full) → is_some (both_vain a b) ≡ true → (is_some a ≡ true) ⊎ (is_some b ≡ true)
+either_vain None b e = inr e
+either_vain (Some a) b e = inl refl
+
+pub both_added : (a b : Option Full) → added (both_vain a b) ≡ added a + added b
+both_added None b = omega arith
+both_added (Some a) None = omega arith
+both_added (Some a) (Some b) = refl
 
 both_none : {X : Type 0} (xs ys : List X) → xs ≡ [] → ys ≡ [] → xs ++ ys ≡ []
 both_none xs ys e f = rw (e, f) refl
@@ -137,7 +142,7 @@ module _ (k : Size) (s : St) (o : IsKept k s) (id other c : ℕ) (v w : Sight) (
     row_words = λ e. absurd (some_told e);
     seen_full = λ e. absurd (some_told e);
     wasted_most = omega (arith, f.wasted_most, g.wasted_most, length-append v.numbers w.numbers);
-    vain = λ any. ⊎_elim (λ a. (let t = f.vain a in omega (arith, t))) (λ a. (let t = g.vain a in omega (arith, t))) (either_full v.hand.vain w.hand.vain any);
+    vain = λ any. ⊎_elim (λ a. (let t = f.vain a in omega (arith, t))) (λ a. (let t = g.vain a in omega (arith, t))) (either_vain v.hand.vain w.hand.vain any);
   }
     where
       some_told : (w.nodes, w.rows, w.words) ∷ v.told ≡ [] → ⊥
@@ -234,6 +239,12 @@ module _ (k : Size) (s : St) (o : IsKept k s) (id other c : ℕ) (v w : Sight) (
     drawn = omega (arith, o.drawn, wasted_sum);
     full = λ any. o.full (omega (arith, any, wasted_sum));
     short = λ any. o.short (omega (arith, any, wasted_sum));
+    vain_rows = o.vain_rows;
+    told = record {
+      once = o.told.once;
+      full = o.told.full;
+      sum = omega (arith, o.told.sum, wasted_sum, sums (λ (h : Hand). added h.vain) (both_added v.hand.vain w.hand.vain) refl);
+    };
     few = λ past. (let l = o.few past in omega (arith, l, few_draw));
     calm = λ alone. (let m = o.calm alone in (omega (arith, m.0, wasted_sum), m.1));
     lost = o.lost;

@@ -1,6 +1,6 @@
 -- What is known of the last world, when the seats of all callers are one.
 use Rattle.std.proofs.Common.{◌≡◌, ℕ, zero, suc, ◌-◌, ◌<◌, ◌≤◌, List, [], ◌∷◌, length, refl, sym, ap, ap₂, ◌∙◌, arith, subst, Bool, true, false, cond, ◌||◌, Some, None, min}
-use Rattle.std.specs.Prelude.{slice_index, slice_get, map}
+use Rattle.std.specs.Prelude.{slice_index, slice_get, map, sum_by}
 use Rattle.std.proofs.lemmas.Bool.{true≢false, cases_lt}
 use Rattle.std.proofs.lemmas.List.Sums.{sum_by-cons}
 use mathlib.Core.Logic.{⊎_elim}
@@ -11,6 +11,7 @@ use Rattle.heap_store.specs.World.{World, is_claimed_at, is_done}
 use Rattle.heap_store.specs.Rows.{row_at, is_ended_at}
 use Rattle.heap_store.specs.Growth.{Grows}
 use Rattle.heap_store.specs.Hand.{Hand, contains, holds_claim, is_built, claim_places, places_from}
+use Rattle.heap_store.specs.Shared.{added}
 use Rattle.heap_store.specs.Budget.{IsInBudget, credits_brought, sum_records, room_of}
 use Rattle.heap_store.specs.View.{published_count}
 use Rattle.heap_store.proofs.BoundLaws.{steps_bound, total_le}
@@ -19,7 +20,7 @@ use Rattle.word_world.specs.LawfulWords.{IsLawfulWords}
 use Rattle.word_world.proofs.Tables.{length-tabulate}
 use Rattle.word_store.specs.declared.sight.Sight.{Sight}
 use Rattle.word_store.specs.declared.pass.Pass.{Pass}
-use Rattle.word_store.specs.Rule.{seen_by}
+use Rattle.word_store.specs.Rule.{AreTold, seen_by}
 use Rattle.word_store.specs.Sound.{IsWhole}
 use Rattle.word_store.specs.Plays.{Sat, LookedLast}
 use Rattle.word_store.specs.Passes.{sight_of, view_of}
@@ -29,7 +30,7 @@ use Rattle.word_store.specs.Closing.{IsClosing, last_of}
 use Rattle.word_store.proofs.Sums.{false_by}
 use Rattle.word_store.proofs.Opening.{run_length}
 use Rattle.word_store.proofs.PassSteps.{one_of}
-use Rattle.word_store.proofs.Gathering.{gathered_idle, gathered_sizes, gathered_numbers, gathered_told, gathered_names}
+use Rattle.word_store.proofs.Gathering.{gathered_idle, gathered_sizes, gathered_numbers, gathered_told, gathered_names, gathered_vain}
 
 -- ---- lists of passes
 
@@ -46,6 +47,10 @@ got_map : {X Y : Type 0} (f : X → Y) (xs : List X) (j : ℕ) (y : Y) → slice
 got_map f [] j y e = absurd (let z : None ≡ Some y = e in cc)
 got_map f (x ∷ xs) zero y e = (x, refl, let z : Some (f x) ≡ Some y = e in cc)
 got_map f (x ∷ xs) (suc j) y e = got_map f xs j y e
+
+sum-map : {X Y : Type 0} (g : Y → ℕ) (f : X → Y) (xs : List X) → sum_by g (map f xs) ≡ sum_by (λ x. g (f x)) xs
+sum-map g f [] = refl
+sum-map g f (x ∷ xs) = omega (arith, sum_by-cons g (f x) (map f xs), sum_by-cons (λ y. g (f y)) x xs, sum-map g f xs)
 
 -- ---- the budget with nothing in hand
 
@@ -135,6 +140,14 @@ module _ (nodes rows callers next : ℕ) (some : 1 ≤ callers) (low : next ≤ 
             (λ any. (let l = whole.short any in absurd (omega (arith, l, room, sizes.0, ap room_of world_is))))
             (λ none. omega (arith, none, whole.drawn, ap (λ (h : Hand). length h.reserved) hand_is, ap length idle.reserved, ap published_count world_is, ap (λ (l : List ℕ). slice_index l 0) words))
             (cases_lt 0 n.0.wasted);
+        vain = n.0.wasted;
+        vain_rows = whole.vain_rows;
+        drawn = omega (arith, whole.drawn, ap (λ (h : Hand). length h.reserved) hand_is, ap length idle.reserved, ap published_count world_is, ap (λ (l : List ℕ). slice_index l 0) words);
+        told = subst (λ w. AreTold w n.0.wasted (sum_by (λ p. added (view_of p).hand.vain) ps) whole.vain_rows) world_is (record {
+          once = whole.told.once;
+          full = whole.told.full;
+          sum = omega (arith, whole.told.sum, ap (λ (h : Hand). added h.vain) hand_is, gathered_vain first (map sight_of ps), sum-map (λ (w : Sight). added w.hand.vain) sight_of ps);
+        });
         ended = λ i inside none. ended_here i inside (gathered_names first (map sight_of ps) (suc i) refl (λ j w e. (let t = got_map sight_of ps j w e in ap (λ (v : Sight). contains v.hand.names (suc i)) (sym t.2) ∙ none j t.0 t.1)));
       }
         where

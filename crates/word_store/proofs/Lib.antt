@@ -1,5 +1,6 @@
 pub mod Sums
 pub mod Moves
+pub mod Told
 pub mod Seats
 pub mod Counts
 pub mod Soundness

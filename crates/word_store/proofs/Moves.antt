@@ -1,16 +1,17 @@
 -- One seat makes a step: what is to be shown of it alone so that the rule is kept.
-use Rattle.std.proofs.Common.{◌≡◌, ◌≢◌, ℕ, suc, ◌+◌, ◌*◌, ◌<◌, ◌≤◌, List, length, refl, arith, Bool, true, false, cond, min, ltb, ◌&&◌}
+use Rattle.std.proofs.Common.{◌≡◌, ◌≢◌, ℕ, suc, ◌+◌, ◌*◌, ◌<◌, ◌≤◌, List, length, refl, arith, Bool, true, false, cond, min, ltb, ◌&&◌, Option}
 use Rattle.std.specs.Prelude.{slice_index, slice_set, sum_by, is_some}
 use Rattle.std.proofs.lemmas.Bool.{true≢false, cases_lt, le-ltb}
 use mathlib.Core.Logic.{⊎_elim}
 use mathlib.Core.Option.{some}
 use lib.ListN.{get_elem?}
 use Rattle.atomic_table.specs.Table.{State}
-use Rattle.heap_store.specs.World.{recs, is_published, is_claimed_at, fixed_places}
+use Rattle.heap_store.specs.declared.claims.Full.{Full}
+use Rattle.heap_store.specs.World.{World, recs, is_published, is_claimed_at, fixed_places}
 use Rattle.heap_store.specs.Rows.{row_at, is_ended_at}
 use Rattle.heap_store.specs.Growth.{Grows}
-use Rattle.heap_store.specs.Hand.{Hand, IsLawfulHand, contains, holds_claim}
-use Rattle.heap_store.specs.Shared.{one_if}
+use Rattle.heap_store.specs.Hand.{Hand, IsLawfulHand, contains, all_distinct, holds_claim}
+use Rattle.heap_store.specs.Shared.{one_if, added, refusal_at}
 use Rattle.heap_store.specs.Budget.{IsBalanced, room_of}
 use Rattle.heap_store.proofs.GrowthLaws.{grows_refl}
 use Rattle.word_world.specs.Words.{state_word_at, record_word_at, row_word_at, places_of}
@@ -71,6 +72,12 @@ sees_now k v ws h n full = record {
   seen_full = full;
 }
 
+-- of a seat that had added `m` in vain, with `a` in hand, and has now added `n`, with `b` in hand: the rows that tell of it
+pub record Tells (w w' : World) (old new : List ℕ) (m n : ℕ) (a b : Option Full) : Type 0 where
+  pub once : all_distinct new ≡ true
+  pub full : (i : ℕ) → contains new i ≡ true → is_some (refusal_at w' i) ≡ true
+  pub sum : n + added a + sum_by (λ i. added (refusal_at w i)) old ≡ m + added b + sum_by (λ i. added (refusal_at w' i)) new
+
 module _ (k : Size) (s : St) (o : IsKept k s) (id : ℕ) (v : Sight) where
   -- the seat `id`, which had the view `v`, leaves the words `ws`, has seen `vs`, has the hand `h` and has added `n` in vain
   pub record Move (ws vs : List ℕ) (h : Hand) (n : ℕ) : Type 0 where
@@ -95,6 +102,8 @@ module _ (k : Size) (s : St) (o : IsKept k s) (id : ℕ) (v : Sight) where
     pub works : works_on_names h ≡ true
     pub mine : KnowsRows (shows k ws) v.numbers h
     pub vain : is_some h.vain ≡ true → 0 < n
+    pub vain_rows : List ℕ
+    pub tells : Tells (shows k s.words) (shows k ws) o.vain_rows vain_rows v.wasted n v.hand.vain h.vain
     -- the other hands
     pub hands : (j : ℕ) (u : Sight) → j ≢ id → get_elem? s.views j ≡ some u → IsLawfulHand (shows k ws) u.hand
     pub others : (j : ℕ) (u : Sight) → j ≢ id → get_elem? s.views j ≡ some u → KnowsRows (shows k ws) u.numbers u.hand

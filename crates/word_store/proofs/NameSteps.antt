@@ -10,7 +10,7 @@ use Rattle.heap_store.specs.World.{recs, is_published, is_claimed_at, fixed_plac
 use Rattle.heap_store.specs.Rows.{row_at, is_ended_at}
 use Rattle.heap_store.specs.Growth.{Grows}
 use Rattle.heap_store.specs.Hand.{Hand, IsLawfulHand, contains, holds_claim, hand_named}
-use Rattle.heap_store.specs.Shared.{one_if}
+use Rattle.heap_store.specs.Shared.{one_if, added}
 use Rattle.heap_store.proofs.GrowthLaws.{grows_refl}
 use Rattle.heap_store.proofs.OpenLaws.{more_open}
 use Rattle.word_world.specs.Words.{state_word_at, record_word_at, row_word_at}
@@ -22,6 +22,7 @@ use Rattle.word_store.specs.Rule.{IsKept, IsSeat, shows, is_none_told, may_draw,
 use Rattle.word_store.specs.Plays.{sight_after}
 use Rattle.word_store.proofs.Sums.{zero_false, false_by, sum_below}
 use Rattle.word_store.proofs.Moves.{St, Move, sees_now, no_draw}
+use Rattle.word_store.proofs.Told.{tells_same}
 use Rattle.word_store.proofs.Seats.{name_open}
 use Rattle.word_store.proofs.Balances.{same_balance}
 use Rattle.word_store.proofs.PlaceSteps.{full_if, calm_if}
@@ -72,6 +73,8 @@ module _ (k : Size) (s : St) (o : IsKept k s) (id : ℕ) (v : Sight) (me : get_e
         works = works;
         mine = λ i r e c. ap (λ xs. contains xs i) mine ∙ f.mine i r (ap (λ w. row_at w i) (sym now) ∙ e) c;
         vain = λ some. f.vain (ap Rattle.std.specs.Prelude.is_some (sym vain) ∙ some);
+        vain_rows = o.vain_rows;
+        tells = tells_same (subst (Grows (shows k s.words)) (sym now) (grows_refl (shows k s.words))) o.told v.wasted v.wasted v.hand.vain h.vain (ap (λ z. v.wasted + added z) (sym vain));
         hands = λ j u ne at'. subst (λ w. IsLawfulHand w u.hand) (sym now) (o.seats j u at').hand;
         others = λ j u ne at'. subst (λ w. KnowsRows w u.numbers u.hand) (sym now) (o.seats j u at').mine;
         claims = λ p. ap₂ (λ cs w. one_if (contains (Rattle.heap_store.specs.Hand.claim_places cs) p) + one_if (is_claimed_at w p)) claims (sym now);

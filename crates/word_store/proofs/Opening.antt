@@ -13,7 +13,7 @@ use Rattle.lazy_rec.specs.Due as by_kind
 use Rattle.heap_store.specs.World.{World, recs, is_taken, fixed_places}
 use Rattle.heap_store.specs.Rows.{row_of}
 use Rattle.heap_store.specs.Hand.{IsLawfulHand, contains, holds_claim, places_from}
-use Rattle.heap_store.specs.Shared.{one_if}
+use Rattle.heap_store.specs.Shared.{one_if, added}
 use Rattle.heap_store.specs.Budget.{IsBalanced, credits_brought, unit_count, all_discharged, dues, direct_places, taken_steps, alone_with, sum_below, sum_rows, of_row}
 use Rattle.heap_store.specs.Plain.{plain_world, five_records, no_words, IsPlain}
 use Rattle.heap_store.proofs.GrowthLaws.{grows_refl}
@@ -119,6 +119,12 @@ module _ (k : Size) (small : IsSmall k) where
         drawn = omega (arith, one_sum (λ (u : Sight). u.wasted) v);
         full = λ any. absurd (omega (arith, any, one_sum (λ (u : Sight). u.wasted) v));
         short = λ any. absurd (omega (arith, any, one_sum (λ (u : Sight). u.wasted) v));
+        vain_rows = [];
+        told = record {
+          once = refl;
+          full = λ i had. absurd (true≢false (sym had));
+          sum = omega (arith, one_sum (λ (u : Sight). u.wasted) v, one_sum (λ (u : Sight). added u.hand.vain) v);
+        };
         few = λ past. absurd (omega (arith, past));
         calm = λ one. (one_sum (λ (u : Sight). u.wasted) v, omega arith);
         lost = lost_first;

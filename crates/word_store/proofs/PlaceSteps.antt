@@ -12,7 +12,7 @@ use Rattle.heap_store.specs.World.{recs, is_published, is_claimed_at, fixed_plac
 use Rattle.heap_store.specs.Rows.{row_at, is_ended_at}
 use Rattle.heap_store.specs.Growth.{Grows}
 use Rattle.heap_store.specs.Hand.{Hand, IsLawfulHand, contains, holds_claim, hand_reserved, places_from, claim_places}
-use Rattle.heap_store.specs.Shared.{one_if}
+use Rattle.heap_store.specs.Shared.{one_if, added}
 use Rattle.heap_store.specs.Budget.{room_of}
 use Rattle.heap_store.proofs.GrowthLaws.{grows_refl}
 use Rattle.word_world.specs.Words.{state_word_at, record_word_at, row_word_at, places_of, world_of}
@@ -24,6 +24,7 @@ use Rattle.word_store.specs.Rule.{IsKept, IsSeat, shows, seen_by, may_draw, is_n
 use Rattle.word_store.specs.Plays.{sight_after, vain_hand}
 use Rattle.word_store.proofs.Sums.{one_true, false_by, term_le}
 use Rattle.word_store.proofs.Moves.{St, Move, sees_now, no_draw}
+use Rattle.word_store.proofs.Told.{tells_same, none_added}
 use Rattle.word_store.proofs.Seats.{place_given}
 use Rattle.word_store.proofs.Balances.{same_balance, reserved_balance}
 use Rattle.word_store.proofs.Given.{room_left}
@@ -71,6 +72,8 @@ module _ (k : Size) (s : St) (o : IsKept k s) (id : ℕ) (v : Sight) (me : get_e
     works = works;
     mine = λ i r e c. ap (λ xs. contains xs i) mine ∙ f.mine i r e c;
     vain = λ some. f.vain (ap is_some (sym vain) ∙ some);
+    vain_rows = o.vain_rows;
+    tells = tells_same (grows_refl (shows k s.words)) o.told v.wasted v.wasted v.hand.vain h.vain (ap (λ z. v.wasted + added z) (sym vain));
     hands = λ j u ne at. (o.seats j u at).hand;
     others = λ j u ne at. (o.seats j u at).mine;
     claims = λ p. ap (λ cs. one_if (contains (claim_places cs) p) + one_if (is_claimed_at (shows k s.words) p)) claims;
@@ -135,6 +138,8 @@ module _ (k : Size) (s : St) (o : IsKept k s) (id : ℕ) (v : Sight) (me : get_e
           works = f.works;
           mine = subst (λ w. KnowsRows w v.numbers h) (sym now) f.mine;
           vain = f.vain;
+          vain_rows = o.vain_rows;
+          tells = tells_same (subst (Grows (shows k s.words)) (sym now) (grows_refl (shows k s.words))) o.told v.wasted v.wasted v.hand.vain v.hand.vain refl;
           hands = λ j u ne at'. subst (λ w. IsLawfulHand w u.hand) (sym now) (o.seats j u at').hand;
           others = λ j u ne at'. subst (λ w. KnowsRows w u.numbers u.hand) (sym now) (o.seats j u at').mine;
           claims = λ p. ap (λ w. one_if (holds_claim v.hand p) + one_if (is_claimed_at w p)) (sym now);
@@ -175,6 +180,9 @@ module _ (k : Size) (s : St) (o : IsKept k s) (id : ℕ) (v : Sight) (me : get_e
           works = f.works;
           mine = subst (λ w. KnowsRows w v.numbers h) (sym now) f.mine;
           vain = λ _. positive;
+          vain_rows = o.vain_rows;
+          tells = tells_same (subst (Grows (shows k s.words)) (sym now) (grows_refl (shows k s.words))) o.told v.wasted a v.hand.vain (Some (record { drawn = x; wanted = a }))
+              (omega (arith, none_yet, none_added v.hand.vain (λ some. (let any = f.vain some in omega (arith, any, none_yet)))));
           hands = λ j u ne at'. subst (λ w. IsLawfulHand w u.hand) (sym now) (o.seats j u at').hand;
           others = λ j u ne at'. subst (λ w. KnowsRows w u.numbers u.hand) (sym now) (o.seats j u at').mine;
           claims = λ p. ap (λ w. one_if (holds_claim v.hand p) + one_if (is_claimed_at w p)) (sym now);
@@ -260,6 +268,8 @@ module _ (k : Size) (s : St) (o : IsKept k s) (id : ℕ) (v : Sight) (me : get_e
       works = f.works;
       mine = subst (λ w. KnowsRows w v.numbers v.hand) (sym filled_now) f.mine;
       vain = f.vain;
+      vain_rows = o.vain_rows;
+      tells = tells_same (subst (Grows (shows k s.words)) (sym filled_now) (grows_refl (shows k s.words))) o.told v.wasted v.wasted v.hand.vain v.hand.vain refl;
       hands = λ i u ne at'. subst (λ w. IsLawfulHand w u.hand) (sym filled_now) (o.seats i u at').hand;
       others = λ i u ne at'. subst (λ w. KnowsRows w u.numbers u.hand) (sym filled_now) (o.seats i u at').mine;
       claims = λ q. ap (λ w. one_if (holds_claim v.hand q) + one_if (is_claimed_at w q)) (sym filled_now);

@@ -36,6 +36,7 @@ use Rattle.word_store.specs.Views.{view_with}
 use Rattle.word_store.specs.Plays.{sight_after, put_hand}
 use Rattle.word_store.proofs.Sums.{false_by}
 use Rattle.word_store.proofs.Moves.{St, Move, sees_now}
+use Rattle.word_store.proofs.Told.{tells_same}
 use Rattle.word_store.proofs.Seats.{place_given, others_reserve, others_claim}
 use Rattle.word_store.proofs.HandLaws.{claim_published}
 use Rattle.word_store.proofs.Balances.{put_balance}
@@ -144,6 +145,8 @@ module _ (k : Size) (s : St) (o : IsKept k s) (id : ℕ) (v : Sight) (me : get_e
         works = f.works;
         mine = λ i t e c. f.mine i t (sym (row_same i) ∙ e) c;
         vain = f.vain;
+        vain_rows = o.vain_rows;
+        tells = tells_same (subst (Grows w) (sym now) (published_grows k.nodes k.rows (plan_of k) s.words o.wide o.well p x r inside free words_now fits.laws.range)) o.told v.wasted v.wasted v.hand.vain v.hand.vain refl;
         hands = λ j u ne at. subst (λ y. IsLawfulHand y u.hand) (sym now) (hand_other a w p r in_list none o.well.world seen_in sound.well.world seen_with seen_grows fits.laws v.hand f.hand fits.origin fits.follows u.hand (o.seats j u at).hand
             (false_by _ (λ had. true≢false (sym mine ∙ (others_reserve k s o id v me j u ne at p had).0)))
             (λ q had theirs. true≢false (sym theirs ∙ (others_claim k s o id v me j u ne at q had).0)));

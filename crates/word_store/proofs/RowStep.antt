@@ -41,7 +41,8 @@ use Rattle.word_store.specs.Sound.{IsSound}
 use Rattle.word_store.specs.Views.{view_with}
 use Rattle.word_store.specs.Plays.{sight_after, row_hand}
 use Rattle.word_store.proofs.Sums.{one_true, terms_le}
-use Rattle.word_store.proofs.Moves.{St, Move, sees_now}
+use Rattle.word_store.proofs.Moves.{St, Move, Tells, sees_now}
+use Rattle.word_store.proofs.Told.{tells_row}
 use Rattle.word_store.proofs.Seats.{name_open, others_name}
 use Rattle.word_store.proofs.Balances.{stored_balance, alike_balance}
 use Rattle.word_store.proofs.PlaceSteps.{full_if, calm_if, few_if}
@@ -343,6 +344,10 @@ module _ (k : Size) (s : St) (o : IsKept k s) (id : ℕ) (v : Sight) (me : get_e
       (stored_balance k s o id v me ws plain i j x a' now row_in (omega (arith, wide, may.word)) once legal grows.ended
       (row_same a' w' may.legal legal keeps_seen by_kind.due (suc i) begun) (row_same a' w' may.legal legal keeps_seen by_kind.direct (suc i) begun) refl)
 
+  -- the rows that tell of adds in vain, with this one if it tells of its caller's
+  told_now : (rows : List ℕ) × Tells (shows k s.words) (shows k (slice_set s.words (row_word_at k.nodes i j) x)) o.vain_rows rows v.wasted v.wasted v.hand.vain (row_hand v caller (suc i) j x).vain
+  told_now = tells_row (subst (Grows w) (sym now) grows) o.told (suc i) mine.0 v.wasted (ends_row j) (row_at a' (suc i)) v.hand.vain (ap (λ y. row_at y (suc i)) now ∙ row_here)
+
   pub stores : Move k s o id v (slice_set s.words (row_word_at k.nodes i j) x) (slice_set s.words (row_word_at k.nodes i j) x) (row_hand v caller (suc i) j x) v.wasted
   stores =
       let full = full_if k s o id v me rights in
@@ -367,6 +372,8 @@ module _ (k : Size) (s : St) (o : IsKept k s) (id : ℕ) (v : Sight) (me : get_e
         works = hand_open (begins_row j x) (ends_row j) (store_word (seen_by v) (suc i) j x) v.hand (suc i) may.drawn f.works;
         mine = knows;
         vain = λ some. f.vain (vain_from (ends_row j) (row_at a' (suc i)) v.hand.vain some);
+        vain_rows = told_now.0;
+        tells = told_now.1;
         hands = λ q u ne at. hand_with_names u.hand u.hand (o.seats q u at).hand refl refl (o.seats q u at).hand.names_once
             (λ m had. (had, (λ eq _. true≢false (sym may.drawn ∙ (others_name k s o id v me q u ne at i (ap (contains u.hand.names) (sym eq) ∙ had)).0))));
         others = others_know;

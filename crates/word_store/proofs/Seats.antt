@@ -11,7 +11,7 @@ use Rattle.heap_store.specs.declared.nodes.Node.{Node}
 use Rattle.heap_store.specs.World.{recs, is_published, is_claimed_at, fixed_places}
 use Rattle.heap_store.specs.Rows.{row_at, is_ended_at}
 use Rattle.heap_store.specs.Hand.{Hand, contains, holds_claim}
-use Rattle.heap_store.specs.Shared.{one_if}
+use Rattle.heap_store.specs.Shared.{one_if, added}
 use Rattle.heap_store.specs.Budget.{room_of}
 use Rattle.heap_store.proofs.GrowthLaws.{grows_trans}
 use Rattle.heap_store.proofs.RowBudget.{room_rises}
@@ -150,6 +150,12 @@ module _ (k : Size) (s : St) (o : IsKept k s) where
         drawn = omega (arith, o.drawn, wasted_sum, m.drawn);
         full = λ any. ⊎_elim (λ some. (let f = o.full some in omega (arith, f, m.places_up))) (λ none. m.full (omega (arith, none, any, wasted_sum))) (cases_lt 0 (sum_by (λ (u : Sight). u.wasted) s.views));
         short = λ any. ⊎_elim (λ some. (let f = o.short some in omega (arith, f, room_up))) (λ none. m.short (omega (arith, none, any, wasted_sum))) (cases_lt 0 (sum_by (λ (u : Sight). u.wasted) s.views));
+        vain_rows = m.vain_rows;
+        told = record {
+          once = m.tells.once;
+          full = m.tells.full;
+          sum = omega (arith, o.told.sum, m.tells.sum, wasted_sum, sum-changed (λ (u : Sight). added u.hand.vain) s.views id v w me);
+        };
         few = λ past. (let f = m.few past in omega (arith, f, sum-changed (may_draw k.rows) s.views id v w me));
         calm = λ one. (let c = m.calm one in let d = o.calm one in (omega (arith, c.0, d.0, wasted_sum), c.1));
         lost = m.lost;

@@ -14,7 +14,7 @@ use Rattle.heap_store.specs.World.{World, recs, node_at, is_published, is_claime
 use Rattle.heap_store.specs.Rows.{row_at, is_ended_at}
 use Rattle.heap_store.specs.Lawful.{IsLawful}
 use Rattle.heap_store.specs.Hand.{Hand, IsLawfulHand, contains, holds_claim, is_built}
-use Rattle.heap_store.specs.Shared.{one_if}
+use Rattle.heap_store.specs.Shared.{one_if, added}
 use Rattle.heap_store.specs.Budget.{IsInBudget, is_being_built, credits_brought, sum_records, room_of}
 use Rattle.heap_store.specs.View.{is_there, published_count}
 use Rattle.heap_store.proofs.FixedPlaces.{fixed_records}
@@ -22,7 +22,7 @@ use Rattle.word_world.specs.Words.{places_of, world_of, node_of_words}
 use Rattle.word_world.proofs.Tables.{length-tabulate}
 use Rattle.word_store.specs.declared.sight.Sight.{Sight}
 use Rattle.word_store.specs.declared.sight.Size.{Size}
-use Rattle.word_store.specs.Rule.{IsKept, IsSeat, shows, seen_by, running, hands_of, empty_hand, KnowsRows, plan_of}
+use Rattle.word_store.specs.Rule.{AreTold, IsKept, IsSeat, shows, seen_by, running, hands_of, empty_hand, KnowsRows, plan_of}
 use Rattle.word_store.specs.Sound.{IsSound, IsAlone, IsWhole}
 use Rattle.word_store.proofs.Sums.{one_true, pos_true, false_by, only_one, term_le, terms_le}
 use Rattle.word_store.proofs.Moves.{St, low_drawn}
@@ -124,6 +124,12 @@ module _ (k : Size) (s : St) (o : IsKept k s) (id : ℕ) (v : Sight) (me : get_e
       ));
       budget = subst IsInBudget (ap₂ (λ w p. record { world = w; hands = v.hand ∷ []; plan = p }) (sym same_world) (sym sizes.3)) budget;
       short = λ any. (let l = o.short (omega (arith, any, all_wasted)) in omega (arith, l, sizes.0, ap room_of same_world));
+      vain_rows = o.vain_rows;
+      told = subst (λ w. AreTold w v.wasted (added v.hand.vain) o.vain_rows) (sym same_world) (record {
+        once = o.told.once;
+        full = o.told.full;
+        sum = omega (arith, o.told.sum, all_wasted, only (λ h. added h.vain) refl);
+      });
     }
 
   -- ---- a single caller

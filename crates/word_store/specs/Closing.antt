@@ -1,9 +1,10 @@
 -- A closed store.
-use Rattle.std.specs.Prelude.{◌≡◌, ℕ, suc, ◌+◌, ◌*◌, ◌<◌, ◌≤◌, min, true, false, List, [], Some, None, length, slice_index, slice_get}
+use Rattle.std.specs.Prelude.{◌≡◌, ℕ, suc, ◌+◌, ◌*◌, ◌<◌, ◌≤◌, min, true, false, List, [], Some, None, length, sum_by, slice_index, slice_get}
 use Rattle.heap_store.specs.World.{World, is_claimed_at, fixed_places}
 use Rattle.heap_store.specs.Rows.{row_at, is_ended_at}
 use Rattle.heap_store.specs.Growth.{Grows}
 use Rattle.heap_store.specs.Hand.{contains}
+use Rattle.heap_store.specs.Shared.{added}
 use Rattle.heap_store.specs.Lawful.{IsLawful}
 use Rattle.heap_store.specs.Legal.{IsLegal}
 use Rattle.heap_store.specs.LookedAt.{HasRoots}
@@ -11,6 +12,7 @@ use Rattle.heap_store.specs.Budget.{IsFunded, IsInBudget, dues, direct_places, t
 use Rattle.heap_store.specs.View.{published_count}
 use Rattle.word_world.specs.Words.{world_of, places_of}
 use Rattle.word_store.specs.declared.pass.Pass.{Pass}
+use Rattle.word_store.specs.Rule.{AreTold}
 use Rattle.word_store.specs.Passes.{view_of}
 
 -- how many places and names were drawn, and the last world
@@ -36,7 +38,8 @@ pub record IsLast (l : Last) : Type 0 where
   pub places : published_count l.world ≤ fixed_places + l.places
 
 -- It extends what each pass had seen, and each drawn name that no pass has in hand has a row that is ended. In a store with as many
--- nodes as its begun events may take no add was in vain: each drawn place is published.
+-- nodes as its begun events may take no add was in vain: each drawn place is published. In another one full rows tell what was added in
+-- vain, each of them one number, but for those that passes still had in hand.
 pub record IsClosing (nodes rows : ℕ) (passes : List Pass) (l : Last) : Type 0 where
   pub last : IsLast l
   pub all_places : length l.world.nodes ≡ places_of nodes
@@ -44,3 +47,7 @@ pub record IsClosing (nodes rows : ℕ) (passes : List Pass) (l : Last) : Type 0
   pub seen : (j : ℕ) (p : Pass) → slice_get passes j ≡ Some p → Grows (view_of p).seen l.world
   pub ended : (i : ℕ) → i < min l.names rows → ((j : ℕ) (p : Pass) → slice_get passes j ≡ Some p → contains (view_of p).hand.names (suc i) ≡ false) → is_ended_at (row_at l.world) (suc i) ≡ true
   pub enough : direct_places l.world + 8 * dues l.world ≤ nodes → published_count l.world ≡ fixed_places + l.places
+  pub vain : ℕ
+  pub vain_rows : List ℕ
+  pub drawn : published_count l.world + vain ≡ fixed_places + l.places
+  pub told : AreTold l.world vain (sum_by (λ p. added (view_of p).hand.vain) passes) vain_rows

@@ -9,9 +9,11 @@ use Rattle.word_store.specs.Rule.{empty_hand}
 abbrev pub no_sight : Sight
 no_sight = record { nodes = 0; rows = 0; callers = 0; plan = None; numbers = []; words = []; told = []; hand = empty_hand; wasted = 0 }
 
-abbrev pub first_full : Option Full → Option Full → Option Full
-first_full None b = b
-first_full (Some a) b = Some a
+-- what both added in vain
+abbrev pub both_vain : Option Full → Option Full → Option Full
+both_vain None b = b
+both_vain (Some a) None = Some a
+both_vain (Some a) (Some b) = Some (record { drawn = a.drawn; wanted = a.wanted + b.wanted })
 
 abbrev pub joined_hand : Hand → Hand → Hand
 joined_hand h g = record {
@@ -20,7 +22,7 @@ joined_hand h g = record {
   names = h.names ++ g.names;
   open_rows = h.open_rows ++ g.open_rows;
   mine = h.mine ++ g.mine;
-  vain = first_full h.vain g.vain;
+  vain = both_vain h.vain g.vain;
   credits = h.credits + g.credits;
   allowance = h.allowance + g.allowance;
 }

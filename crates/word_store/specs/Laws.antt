@@ -1,5 +1,5 @@
 -- What the rule means for who uses a store.
-use Rattle.std.specs.Prelude.{◌≡◌, ◌≢◌, ℕ, ◌+◌, ◌*◌, ◌<◌, ◌≤◌, true, false, Some, length, sum_by, is_some, slice_index}
+use Rattle.std.specs.Prelude.{◌≡◌, ◌≢◌, ℕ, ◌+◌, ◌*◌, ◌<◌, ◌≤◌, List, true, false, Some, length, sum_by, is_some, slice_index}
 use mathlib.Core.Option.{some}
 use lib.ListN.{get_elem?}
 use Rattle.atomic_table.specs.Table.{State}
@@ -7,10 +7,11 @@ use Rattle.lazy_rec.specs.declared.states.SuspState.{SuspState}
 use Rattle.lazy_rec.specs.States.{kept}
 use Rattle.heap_store.specs.World.{state_at, is_done}
 use Rattle.heap_store.specs.Hand.{Hand, holds_claim}
+use Rattle.heap_store.specs.Shared.{added}
 use Rattle.heap_store.specs.Budget.{dues, direct_places, taken_steps, places_given}
 use Rattle.word_store.specs.declared.sight.Sight.{Sight}
 use Rattle.word_store.specs.declared.sight.Size.{Size}
-use Rattle.word_store.specs.Rule.{IsKept, shows, seen_by, running, hands_of}
+use Rattle.word_store.specs.Rule.{AreTold, IsKept, shows, seen_by, running, hands_of}
 
 -- what a seat has seen done is done
 abbrev pub DoneStays : Type 0
@@ -38,6 +39,12 @@ PlacesAreDue = (k : Size) (s : State ℕ Sight) → IsKept k s
 abbrev pub VainIsShort : Type 0
 VainIsShort = (k : Size) (s : State ℕ Sight) → IsKept k s → (j : ℕ) (v : Sight) → get_elem? s.views j ≡ some v
     → 0 < v.wasted → k.nodes < direct_places (shows k s.words) + 8 * dues (shows k s.words)
+
+-- The number of drawn places has those that are published or reserved, and what was added in vain. Of that some stands in hands, and full
+-- rows tell the rest, each of them one number, once
+abbrev pub VainIsTold : Type 0
+VainIsTold = (k : Size) (s : State ℕ Sight) → IsKept k s
+    → (vain : ℕ) × (rows : List ℕ) × (slice_index s.words 0 ≡ places_given (running k s.words s.views) + vain) × AreTold (shows k s.words) vain (sum_by (λ (h : Hand). added h.vain) (hands_of s.views)) rows
 
 -- where it has as many, what is drawn and may yet be reserved is within it
 abbrev pub RoomIsEnough : Type 0

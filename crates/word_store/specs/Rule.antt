@@ -11,7 +11,7 @@ use Rattle.heap_store.specs.World.{World, recs, is_published, is_claimed_at, fix
 use Rattle.heap_store.specs.Rows.{Row, row_at, is_ended_at}
 use Rattle.heap_store.specs.Growth.{Grows}
 use Rattle.heap_store.specs.Hand.{Hand, IsLawfulHand, contains, all_distinct, holds_claim, places_from}
-use Rattle.heap_store.specs.Shared.{one_if}
+use Rattle.heap_store.specs.Shared.{one_if, added, refusal_at}
 use Rattle.heap_store.specs.Budget.{Running, IsBalanced, room_of}
 use Rattle.word_world.specs.Words.{world_of, word_count, first_words, state_word_at, record_word_at, row_word_at}
 use Rattle.word_world.specs.LawfulWords.{IsLawfulWords}
@@ -86,6 +86,12 @@ seat_count test views = sum_by (λ v. one_if (test v)) views
 abbrev pub hands_of : List Sight → List Hand
 hands_of views = map (λ (v : Sight). v.hand) views
 
+-- so much was added in vain, of which so much stands in hands. Full rows tell the rest, each of them one number, once
+pub record AreTold (w : World) (vain held : ℕ) (rows : List ℕ) : Type 0 where
+  pub once : all_distinct rows ≡ true
+  pub full : (i : ℕ) → contains rows i ≡ true → is_some (refusal_at w i) ≡ true
+  pub sum : vain ≡ held + sum_by (λ i. added (refusal_at w i)) rows
+
 -- the world with all hands
 abbrev pub running : Size → List ℕ → List Sight → Running
 running k ws views = record { world = shows k ws; hands = hands_of views; plan = (plan_of k) }
@@ -114,6 +120,9 @@ pub record IsKept (k : Size) (s : State ℕ Sight) : Type 0 where
   pub full : 0 < sum_by (λ (v : Sight). v.wasted) s.views → k.nodes < slice_index s.words 0
   -- something was added in vain only where the store is smaller than what its begun events may take
   pub short : 0 < sum_by (λ (v : Sight). v.wasted) s.views → k.nodes < room_of (shows k s.words)
+  -- what was added in vain stands in the hand of its caller, or in a full row
+  pub vain_rows : List ℕ
+  pub told : AreTold (shows k s.words) (sum_by (λ (v : Sight). v.wasted) s.views) (sum_by (λ (v : Sight). added v.hand.vain) s.views) vain_rows
   -- each caller draws a name in vain at most once
   pub few : k.rows < slice_index s.words 1 → slice_index s.words 1 + sum_by (may_draw k.rows) s.views ≤ k.rows + k.callers
   -- a single caller draws nothing in vain

@@ -1,15 +1,16 @@
 -- What a seat may rely on: what it has seen is lawful, and agrees with what it has in hand.
-use Rattle.std.specs.Prelude.{◌≡◌, ℕ, suc, ◌+◌, ◌<◌, ◌≤◌, min, true, false, [], ◌∷◌, length, is_some, slice_index}
+use Rattle.std.specs.Prelude.{◌≡◌, ℕ, suc, ◌+◌, ◌<◌, ◌≤◌, min, true, false, List, [], ◌∷◌, length, is_some, slice_index}
 use Rattle.lazy_rec.specs.declared.limits.TheConstants.{MOST_DRAWN, MOST_EVENTS, MOST_NODES}
 use Rattle.heap_store.specs.World.{is_claimed_at, fixed_places}
 use Rattle.heap_store.specs.Rows.{row_at, is_ended_at}
 use Rattle.heap_store.specs.Hand.{IsLawfulHand, contains, holds_claim}
+use Rattle.heap_store.specs.Shared.{added}
 use Rattle.heap_store.specs.Budget.{IsInBudget, room_of}
 use Rattle.heap_store.specs.View.{published_count}
 use Rattle.word_world.specs.Words.{places_of, word_count}
 use Rattle.word_world.specs.LawfulWords.{IsLawfulWords}
 use Rattle.word_store.specs.declared.sight.Sight.{Sight}
-use Rattle.word_store.specs.Rule.{seen_by, works_on_names, KnowsRows}
+use Rattle.word_store.specs.Rule.{AreTold, seen_by, works_on_names, KnowsRows}
 
 -- the seat of a store with one caller has all that is drawn, claimed and named, and nothing was added in vain
 pub record IsAlone (v : Sight) : Type 0 where
@@ -22,13 +23,15 @@ pub record IsAlone (v : Sight) : Type 0 where
   pub budget : IsInBudget (record { world = seen_by v; hands = v.hand ∷ []; plan = v.plan })
 
 -- the seat of all callers has all that is given, claimed and named, the budget is kept with its hand alone, and it has added in
--- vain only where the store is smaller than what its begun events may take
+-- vain only where the store is smaller than what its begun events may take. Full rows tell of that, but for what is in its hand
 pub record IsWhole (v : Sight) : Type 0 where
   pub drawn : published_count (seen_by v) + length v.hand.reserved + v.wasted ≡ fixed_places + slice_index v.words 0
   pub claims : (s : ℕ) → is_claimed_at (seen_by v) s ≡ true → holds_claim v.hand s ≡ true
   pub names : (i : ℕ) → i < min (slice_index v.words 1) v.rows → is_ended_at (row_at (seen_by v)) (suc i) ≡ false → contains v.hand.names (suc i) ≡ true
   pub budget : IsInBudget (record { world = seen_by v; hands = v.hand ∷ []; plan = v.plan })
   pub short : 0 < v.wasted → v.nodes < room_of (seen_by v)
+  pub vain_rows : List ℕ
+  pub told : AreTold (seen_by v) v.wasted (added v.hand.vain) vain_rows
 
 pub record IsSound (v : Sight) : Type 0 where
   pub small : (v.nodes ≤ MOST_NODES) × (v.rows ≤ MOST_EVENTS)

@@ -1,5 +1,5 @@
 //! What the rule means for who uses a store: laws, each the contract of a function with an empty body.
-ghost use Rattle.word_store.specs.Laws.{DoneStays, ClaimsAreOnce, DoneIsUnclaimed, WorkIsDue, PlacesAreDue, VainIsShort, RoomIsEnough};
+ghost use Rattle.word_store.specs.Laws.{DoneStays, ClaimsAreOnce, DoneIsUnclaimed, WorkIsDue, PlacesAreDue, VainIsShort, VainIsTold, RoomIsEnough};
 
 /// A suspension that any caller ever saw done is done, with the same place and the same steps.
 pub fn done_stays()
@@ -31,6 +31,12 @@ pub fn places_are_due()
 /// After an add in vain the store has fewer nodes than its begun events may take, with eight for each step that these are due.
 pub fn vain_is_short()
     ensures { VainIsShort }
+{}
+
+/// The number of drawn places is that of the published and reserved ones, and what was added in vain. Full rows tell what was added in
+/// vain, but for what is still in a hand: each of these rows tells one number, and none is told by two rows.
+pub fn vain_is_told()
+    ensures { VainIsTold }
 {}
 
 /// In a store with that many nodes the number of drawn places, and what all callers may yet reserve, are together within it: so
