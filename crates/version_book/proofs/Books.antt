@@ -1,7 +1,8 @@
 -- Events that are run in order: what holds after so many of them, and the book in the end.
 use mathlib.Core.Path.{fun_ext}
-use Rattle.std.proofs.Common.{◌≡◌, ℕ, zero, suc, ◌+◌, ◌^◌, ◌<◌, ◌≤◌, Bool, true, false, ◌&&◌, Option, Some, None, List, length, refl, sym, ap, ◌∙◌, arith, subst, ⊎_elim}
+use Rattle.std.proofs.Common.{◌≡◌, ℕ, zero, suc, ◌+◌, ◌^◌, ◌<◌, ◌≤◌, Bool, true, false, ◌&&◌, Option, Some, None, List, [], length, refl, sym, ap, ◌∙◌, arith, subst, ⊎_elim}
 use Rattle.std.specs.Prelude.{option_map}
+use Rattle.std.proofs.lemmas.List.{get_or_past}
 use Rattle.std.proofs.lemmas.Option.{slice_get_past}
 use Rattle.std.proofs.lemmas.Bool.{true≢false, cases_eq, cases_lt, lt-ltb}
 use Rattle.lazy_rec.specs.declared.events.Kind.{Kind}
@@ -11,13 +12,15 @@ use Rattle.lazy_rec.specs.Kinds.{bases, belongs, same_kind, is_split}
 use Rattle.lazy_rec.specs.History.{is_second, event_name, event_of, kind_of, new_kind, is_smaller, has_smaller_bases, IsScript}
 use Rattle.dues.specs.Rooms.{room}
 use Rattle.heap_store.specs.declared.plain.PlainHeap.{PlainHeap}
-use Rattle.heap_store.specs.Rows.{Row, Ending, full, is_full, row_at, is_ended_at, events_of}
-use Rattle.heap_store.specs.View.{View, About, IsLawfulView}
+use Rattle.heap_store.specs.Rows.{Row, Ending, full, is_full, row_of, row_at, is_ended_at, events_of}
+use Rattle.heap_store.specs.View.{View, About, IsLawfulView, published_count}
 use Rattle.heap_store.specs.Plain.{no_words}
 use Rattle.heap_store.specs.Opened.{view_of, opened_view}
 use Rattle.std.specs.Prelude.{option_and_then}
-use Rattle.heap_store.specs.World.{World}
+use Rattle.heap_store.specs.World.{World, is_claimed_at, fixed_places}
 use Rattle.heap_store.specs.Growth.{Grows, begun_of}
+use Rattle.heap_store.specs.Lawful.{IsLawful}
+use Rattle.heap_store.specs.LookedAt.{HasRoots}
 use Rattle.heap_store.specs.Legal.{IsLegal}
 use Rattle.heap_store.specs.Budget.{direct_at, dues, room_of}
 use Rattle.heap_store.specs.Causes.{HasCause}
@@ -28,7 +31,7 @@ use Rattle.heap_store.proofs.PlainLists.{length-filled}
 use Rattle.lazy_rec.proofs.HistoryLaws.{smaller-lt, smaller-pos, base-low, stands, kind_is, kind_of_agree}
 use Rattle.heap_store.proofs.ShowLaws.{one_value}
 use Rattle.kind_table.specs.Kinds.{is_built, AreBuilt}
-use Rattle.version_book.specs.Closed.{IsBook, IsBounded, IsRefusal, IsWhole}
+use Rattle.version_book.specs.Closed.{IsBook, IsBounded, IsClosed, IsPaid, IsRefusal, IsWhole}
 use Rattle.version_book.specs.Pass.{Pass}
 use Rattle.version_book.proofs.Rooms.{room_fits}
 use Rattle.version_book.proofs.InOrder.{all_up}
@@ -160,57 +163,52 @@ module _ (nodes : ℕ) (events : List Event) (script : IsScript events) (built :
 rows_length : (h : PlainHeap) → length (view_of h).seen.rows ≡ (view_of h).about.rows
 rows_length h = length-filled no_words h.row_capacity h.rows.items h.plain.rows_fit
 
-module _ (nodes : ℕ) (events : List Event) (i : ℕ) (p : Pass) (idle : IsIdle p.view) (all : length p.view.seen.rows ≡ p.view.about.rows) (h : AreRun nodes events i p) (last : i ≡ length events) where
-  abbrev v : View
-  v = p.view
+-- a world in which nobody works, whose rows are those of the events
+module _ (nodes : ℕ) (events : List Event) (w : World) (rows : RowsAreRun nodes w events (length events)) (all : length w.rows ≡ length events) (few : length events ≤ 200000)
+    (lawful : IsLawful w) (legal : IsLegal w) (roots : HasRoots w) (unclaimed : (s : ℕ) → is_claimed_at w s ≡ false) (paid : IsPaid w) where
+  row_past : (k : ℕ) → length events ≤ k → row_at w (suc k) ≡ None
+  row_past k l = ap (row_of (suc k)) (get_or_past w.rows k [] (omega (arith, all, l)))
 
-  abbrev law : IsLawfulView p.view
-  law = h.lawful
-
-  row_there : (j : ℕ) (r : Row) → row_at v.seen j ≡ Some r → IsRun nodes v.seen events j r
+  row_there : (j : ℕ) (r : Row) → row_at w j ≡ Some r → IsRun nodes w events j r
   row_there zero r e = cc
   row_there (suc k) r e = ⊎_elim
-      (λ l. (let z : None ≡ Some r = sym (law.unnamed h.solo.alone (suc k) l) ∙ e in cc))
-      (λ l. (let t = h.rows_are (suc k) (omega arith) (omega (arith, l, h.named)) in
-      subst (IsRun nodes v.seen events (suc k)) (one_value t.0 r (sym t.1 ∙ e)) t.2))
-      (cases_lt v.named (suc k))
+      (λ l. (let t = rows (suc k) (omega arith) (omega (arith, l)) in
+      subst (IsRun nodes w events (suc k)) (one_value t.0 r (sym t.1 ∙ e)) t.2))
+      (λ l. (let z : None ≡ Some r = sym (row_past k l) ∙ e in cc))
+      (cases_lt k (length events))
 
-  pub is_whole : IsWhole v
-  is_whole = record {
-    closed = record {
-      lawful = law.world;
-      legal = law.legal;
-      roots = law.roots;
-      unclaimed = quiet_all v law h.solo.alone idle.claims;
-      readable = λ j low high. (let t = h.rows_are j low (omega (arith, high, all, h.rows, last)) in record {
-        row = t.0;
-        here = t.1;
-        ended = t.2.ended;
-        range = law.legal.ranges j t.0 t.1;
-        low = omega (arith, high, all, law.rows_few);
-      });
-    };
-    named = omega (arith, all, h.rows, h.named, last);
-    paid = record { steps = closed_steps v law h.solo.alone idle.claims; places = closed_places v law h.solo.alone idle.claims };
+  pub is_closed : IsClosed w
+  is_closed = record {
+    lawful = lawful;
+    legal = legal;
+    roots = roots;
+    unclaimed = unclaimed;
+    readable = λ j low high. (let t = rows j low (omega (arith, high, all)) in record {
+      row = t.0;
+      here = t.1;
+      ended = t.2.ended;
+      range = legal.ranges j t.0 t.1;
+      low = omega (arith, high, all, few);
+    });
   }
 
   -- the rows have the events of the list, and there is none beside
-  events_there : (j : ℕ) → events_of (row_at v.seen) j ≡ event_of events j
+  events_there : (j : ℕ) → events_of (row_at w) j ≡ event_of events j
   events_there zero = refl
   events_there (suc k) = ⊎_elim
-      (λ l. (let past : event_of events (suc k) ≡ None = slice_get_past events k (omega arith) in
-      ap (option_map (λ (r : Row). r.event)) (law.unnamed h.solo.alone (suc k) l) ∙ sym past))
-      (λ l. (let t = h.rows_are (suc k) (omega arith) (omega (arith, l, h.named)) in
+      (λ l. (let t = rows (suc k) (omega arith) (omega (arith, l)) in
       ap (option_map (λ (r : Row). r.event)) t.1 ∙ sym t.2.event))
-      (cases_lt v.named (suc k))
+      (λ l. (let past : event_of events (suc k) ≡ None = slice_get_past events k (omega (arith, l)) in
+      ap (option_map (λ (r : Row). r.event)) (row_past k l) ∙ sym past))
+      (cases_lt k (length events))
 
-  within_room : room_of v.seen ≤ room events
-  within_room = room_fits v.seen law.legal events (fun_ext events_there) (all ∙ h.rows)
+  within_room : room_of w ≤ room events
+  within_room = room_fits w legal events (fun_ext events_there) all
 
-  bounded : IsBounded v.seen nodes events
+  bounded : IsBounded w nodes events
   bounded = record {
-    steps = closed_steps v law h.solo.alone idle.claims;
-    places = closed_places v law h.solo.alone idle.claims;
+    steps = paid.steps;
+    places = paid.places;
     room = within_room;
     never_full = λ fits j r e. never r.ending (λ d k f. (let n = (row_there j r e).numbers d k f in absurd (omega (arith, fits, within_room, n.no_room, n.within))));
   }
@@ -219,19 +217,40 @@ module _ (nodes : ℕ) (events : List Event) (i : ℕ) (p : Pass) (idle : IsIdle
       never (full d k) h = absurd (h d k refl)
       never _ h = refl
 
-  pub is_book : IsBook v.seen nodes events
-  is_book = record {
-    closed = is_whole.closed;
-    count = all ∙ h.rows;
+  pub is_book : published_count w ≤ fixed_places + nodes → IsBook w nodes events
+  is_book within = record {
+    closed = is_closed;
+    count = all;
     events_are = λ j r e. (row_there j r e).event;
     callers = λ j r e. (row_there j r e).caller;
     full_where = λ j r d k e f. (row_there j r e).numbers d k f;
     causes = λ j r e. (row_there j r e).cause;
-    within = omega (arith, law.places, h.capacity);
+    within = within;
     bounded = bounded;
   }
 
-module _ (nodes : ℕ) (events : List Event) (h : PlainHeap) (i : ℕ) (p : Pass) (same : view_of h ≡ p.view) (idle : IsIdle (view_of h)) (a : AreRun nodes events i p) (last : i ≡ length events) where
+-- the same of the store of one thread
+module _ (nodes : ℕ) (events : List Event) (p : Pass) (idle : IsIdle p.view) (all : length p.view.seen.rows ≡ p.view.about.rows) (h : AreRun nodes events (length events) p) where
+  abbrev v : View
+  v = p.view
+
+  abbrev law : IsLawfulView p.view
+  law = h.lawful
+
+  paid : IsPaid v.seen
+  paid = record { steps = closed_steps v law h.solo.alone idle.claims; places = closed_places v law h.solo.alone idle.claims }
+
+  pub run_whole : IsWhole v
+  run_whole = record {
+    closed = is_closed nodes events v.seen h.rows_are (all ∙ h.rows) (omega (arith, h.rows, law.rows_few)) law.world law.legal law.roots (quiet_all v law h.solo.alone idle.claims) paid;
+    named = omega (arith, all, h.rows, h.named);
+    paid = paid;
+  }
+
+  pub run_book : IsBook v.seen nodes events
+  run_book = is_book nodes events v.seen h.rows_are (all ∙ h.rows) (omega (arith, h.rows, law.rows_few)) law.world law.legal law.roots (quiet_all v law h.solo.alone idle.claims) paid (omega (arith, law.places, h.capacity))
+
+module _ (nodes : ℕ) (events : List Event) (h : PlainHeap) (p : Pass) (same : view_of h ≡ p.view) (idle : IsIdle (view_of h)) (a : AreRun nodes events (length events) p) where
   all_rows : length p.view.seen.rows ≡ p.view.about.rows
   all_rows = subst (λ (v : View). length v.seen.rows ≡ v.about.rows) same (rows_length h)
 
@@ -239,13 +258,13 @@ module _ (nodes : ℕ) (events : List Event) (h : PlainHeap) (i : ℕ) (p : Pass
   idle_is = subst IsIdle same idle
 
   pub book-of : IsBook (view_of h).seen nodes events
-  book-of = subst (λ (v : View). IsBook v.seen nodes events) (sym same) (is_book nodes events i p idle_is all_rows a last)
+  book-of = subst (λ (v : View). IsBook v.seen nodes events) (sym same) (run_book nodes events p idle_is all_rows a)
 
   pub whole-of : IsWhole (view_of h)
-  whole-of = subst IsWhole (sym same) (is_whole nodes events i p idle_is all_rows a last)
+  whole-of = subst IsWhole (sym same) (run_whole nodes events p idle_is all_rows a)
 
-  pub charged-of : (charged : ℕ) → charged ≡ dues_to p.view.seen i → charged ≡ dues (view_of h).seen
-  charged-of charged t = subst (λ (v : View). charged ≡ dues v.seen) (sym same) (t ∙ all_dues p.view.seen i (all_rows ∙ (a.rows ∙ sym last)))
+  pub charged-of : (charged : ℕ) → charged ≡ dues_to p.view.seen (length events) → charged ≡ dues (view_of h).seen
+  charged-of charged t = subst (λ (v : View). charged ≡ dues v.seen) (sym same) (t ∙ all_dues p.view.seen (length events) (all_rows ∙ a.rows))
 
 -- nothing is in hand of a store that was just opened
 pub opened_idle : (nodes rows : ℕ) → IsIdle (opened_view nodes rows)

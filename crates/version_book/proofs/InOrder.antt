@@ -64,12 +64,13 @@ out_of_names p w (refusals.NamesFull none) solo next n = omega (arith, n.full, (
 out_of_names p w (refusals.StoreFull refusal) solo next n = n
 out_of_names p w refusals.NoMemory solo next n = n
 
+-- passes are the same by their views and callers
+pub same_parts : (v w : View) (a b : ℕ) → v ≡ w → a ≡ b → pass_of v a ≡ pass_of w b
+same_parts v w a b e f = rw (e, f) refl
+
 -- a quiet call leaves all as it was
 pub same_pass : {p q : Pass} → IsSolo p → Quiet p.view q.view → q.caller ≡ p.caller → q ≡ p
-same_pass {p} {q} solo quiet caller = both q.view p.view q.caller p.caller (quiet.alone solo.alone) caller
-  where
-    both : (v w : View) (a b : ℕ) → v ≡ w → a ≡ b → pass_of v a ≡ pass_of w b
-    both v w a b e f = rw (e, f) refl
+same_pass {p} {q} solo quiet caller = same_parts q.view p.view q.caller p.caller (quiet.alone solo.alone) caller
 
 -- ---- the versions that an event uses
 

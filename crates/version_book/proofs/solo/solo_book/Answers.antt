@@ -46,10 +46,10 @@ pub of-requires : goal.of-requires
 of-requires c =
     let k = (goal.at.of-requires c).After-into_heap in
     record {
-      whole = whole-of c.args.nodes c.args.events.now c.into_heap.result (length c.args.events.now) c.run_events-charged.new.pass c.into_heap.ensures.heap c.into_heap.ensures.idle (run k) refl;
-      charged = charged-of c.args.nodes c.args.events.now c.into_heap.result (length c.args.events.now) c.run_events-charged.new.pass c.into_heap.ensures.heap c.into_heap.ensures.idle (run k) refl c.run_events-charged.result c.run_events-charged.ensures.charged;
+      whole = whole-of c.args.nodes c.args.events.now c.into_heap.result c.run_events-charged.new.pass c.into_heap.ensures.heap c.into_heap.ensures.idle (run k);
+      charged = charged-of c.args.nodes c.args.events.now c.into_heap.result c.run_events-charged.new.pass c.into_heap.ensures.heap c.into_heap.ensures.idle (run k) c.run_events-charged.result c.run_events-charged.ensures.charged;
     }
 
 pub returns : goal.returns
 returns c = subst (λ (w : World). IsBook w c.args.nodes c.args.events.now) (sym c.of.ensures)
-    (book-of c.args.nodes c.args.events.now c.into_heap.result (length c.args.events.now) c.run_events-charged.new.pass c.into_heap.ensures.heap c.into_heap.ensures.idle (run (goal.at.returns c).After-into_heap) refl)
+    (book-of c.args.nodes c.args.events.now c.into_heap.result c.run_events-charged.new.pass c.into_heap.ensures.heap c.into_heap.ensures.idle (run (goal.at.returns c).After-into_heap))
