@@ -8,13 +8,14 @@ use mathlib.Core.Path.{fun_ext}
 use Rattle.lazy_rec.specs.Units.{credits}
 use Rattle.heap_store.specs.declared.claims.HeldClaim.{HeldClaim}
 use Rattle.heap_store.specs.World.{World, is_claimed_at, is_done}
-use Rattle.heap_store.specs.Rows.{row_at, is_ended_at}
+use Rattle.heap_store.specs.Rows.{row_at, words_at, is_ended_at}
 use Rattle.heap_store.specs.Growth.{Grows}
 use Rattle.heap_store.specs.Hand.{Hand, contains, holds_claim, is_built, claim_places, places_from}
 use Rattle.heap_store.specs.Shared.{added}
 use Rattle.heap_store.specs.Budget.{IsInBudget, credits_brought, sum_records, room_of}
 use Rattle.heap_store.specs.View.{published_count}
 use Rattle.heap_store.proofs.BoundLaws.{steps_bound, total_le}
+use Rattle.heap_store.proofs.WordLaws.{zero_unended}
 use Rattle.word_world.specs.Words.{world_of, node_of_words, row_words, places_of}
 use Rattle.word_world.specs.LawfulWords.{IsLawfulWords}
 use Rattle.word_world.proofs.Tables.{length-tabulate}
@@ -120,7 +121,7 @@ module _ (nodes rows callers next : ℕ) (some : 1 ≤ callers) (low : next ≤ 
       last_budget : IsInBudget (record { world = world_of nodes rows ws; hands = []; plan = None })
       last_budget = no_hand (world_of nodes rows ws) n.0.hand (ap (λ (h : Hand). h.claims) hand_is ∙ idle.claims) (ap (λ (h : Hand). h.reserved) hand_is ∙ idle.reserved) (subst IsInBudget (ap₂ (λ w p. record { world = w; hands = n.0.hand ∷ []; plan = p }) world_is sizes.3) whole.budget)
 
-      pub closing : IsClosing nodes rows ps (last_of nodes rows ws)
+      pub closing : IsClosing nodes rows callers ps (last_of nodes rows ws)
       closing = record {
         last = record {
           lawful = well.world;
@@ -148,6 +149,8 @@ module _ (nodes rows callers next : ℕ) (some : 1 ≤ callers) (low : next ≤ 
           full = whole.told.full;
           sum = omega (arith, whole.told.sum, ap (λ (h : Hand). added h.vain) hand_is, gathered_vain first (map sight_of ps), sum-map (λ (w : Sight). added w.hand.vain) sight_of ps);
         });
+        ended_drawn = λ i e. ⊎_elim (λ l. l) (λ past. absurd (true≢false (sym e ∙ zero_unended (suc i) (words_at (world_of nodes rows ws) (suc i)) (well.undrawn i 5 past)))) (cases_lt i (slice_index ws 1));
+        calm = λ one. (let a = k.sound.alone (sizes.2 ∙ one) in (omega (arith, whole.drawn, a.drawn), omega (arith, a.rows, sizes.1, ap (λ (l : List ℕ). slice_index l 1) words)));
         ended = λ i inside none. ended_here i inside (gathered_names first (map sight_of ps) (suc i) refl (λ j w e. (let t = got_map sight_of ps j w e in ap (λ (v : Sight). contains v.hand.names (suc i)) (sym t.2) ∙ none j t.0 t.1)));
       }
         where

@@ -39,15 +39,17 @@ pub record IsLast (l : Last) : Type 0 where
 
 -- It extends what each pass had seen, and each drawn name that no pass has in hand has a row that is ended. In a store with as many
 -- nodes as its begun events may take no add was in vain: each drawn place is published. In another one full rows tell what was added in
--- vain, each of them one number, but for those that passes still had in hand.
-pub record IsClosing (nodes rows : ℕ) (passes : List Pass) (l : Last) : Type 0 where
+-- vain, each of them one number, but for those that passes still had in hand. A single caller adds and draws nothing in vain.
+pub record IsClosing (nodes rows callers : ℕ) (passes : List Pass) (l : Last) : Type 0 where
   pub last : IsLast l
   pub all_places : length l.world.nodes ≡ places_of nodes
   pub all_rows : length l.world.rows ≡ rows
   pub seen : (j : ℕ) (p : Pass) → slice_get passes j ≡ Some p → Grows (view_of p).seen l.world
   pub ended : (i : ℕ) → i < min l.names rows → ((j : ℕ) (p : Pass) → slice_get passes j ≡ Some p → contains (view_of p).hand.names (suc i) ≡ false) → is_ended_at (row_at l.world) (suc i) ≡ true
+  pub ended_drawn : (i : ℕ) → is_ended_at (row_at l.world) (suc i) ≡ true → i < l.names
   pub enough : direct_places l.world + 8 * dues l.world ≤ nodes → published_count l.world ≡ fixed_places + l.places
   pub vain : ℕ
   pub vain_rows : List ℕ
   pub drawn : published_count l.world + vain ≡ fixed_places + l.places
   pub told : AreTold l.world vain (sum_by (λ p. added (view_of p).hand.vain) passes) vain_rows
+  pub calm : callers ≡ 1 → (vain ≡ 0) × (l.names ≤ rows)

@@ -104,7 +104,7 @@ pub struct NotClosed<J: Naming> {
 }
 
 impl Store {
-    ghost use Rattle.word_store.specs.Stores.{store_id, next_caller, place_count, row_count};
+    ghost use Rattle.word_store.specs.Stores.{store_id, next_caller, caller_count, place_count, row_count};
     ghost use Rattle.word_store.specs.Closing.{IsClosing};
 
     /// The last words of the store, which is given with all passes that were taken from it. No pass may have a claim, a reserved
@@ -117,7 +117,7 @@ impl Store {
         requires store { store_id self ≡ J.store }
         requires all { vec_len passes ≡ next_caller self }
         requires closable { (j : ℕ) (p : Pass) → slice_get (map (λ q. q.pass) passes.items) j ≡ Some p → MayClose (sight_of p).hand }
-        ensures ok { IfOk result (λ closed. IsClosing (place_count self) (row_count self) (map (λ q. q.pass) passes.items) closed) }
+        ensures ok { IfOk result (λ closed. IsClosing (place_count self) (row_count self) (caller_count self) (map (λ q. q.pass) passes.items) closed) }
         ensures err { IfErr result (λ back. (back.store ≡ self) × (back.passes ≡ passes)) }
     {
         let Ok(mut words) = Vec::from_elem(alloc, 0, self.layout.word_count()) else {

@@ -23,5 +23,5 @@ pub returns-clause-ok : goal.returns-clause-ok
 returns-clause-ok g c = let s = c.args.self in let ps : List Pass = map (λ q. q.pass) c.args.passes.items in
     let many : length ps ≡ s.next = omega (arith, map_length (λ q. q.pass) c.args.passes.items, c.args.passes.ok.0, c.requires.all) in
     let is = c.take_in_all.ensures.gathered ∙ ap (λ v. gathered v (map sight_of ps)) s.seen in
-    subst (IsClosing s.layout.nodes s.layout.rows ps) (sym c.of.ensures)
+    subst (IsClosing s.layout.nodes s.layout.rows s.callers ps) (sym c.of.ensures)
     (closing s.layout.nodes s.layout.rows s.callers s.next s.small.2 s.small.4 ps many c.requires.closable c.take_in_all.new.self.seat.me c.look_last.new.self.seat.me c.look_last.ensures.play is c.copy.new.words.items c.copy.ensures)
