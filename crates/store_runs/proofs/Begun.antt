@@ -17,8 +17,8 @@ use Rattle.version_book.specs.Calls.{Ended, IsOutOfNames, ending_told, new_event
 use Rattle.version_book.proofs.InOrder.{ending_ended}
 use Rattle.store_runs.specs.Crews.{HasBegun, IsQueueRow}
 
-pub begun_none : (v : View) → HasBegun v v 0
-begun_none v = record { grows = grows_refl v.seen; about = refl; count_is = omega arith; rows = λ i h. inl h }
+pub nothing_begun : (v : View) → HasBegun v v 0
+nothing_begun v = record { grows = grows_refl v.seen; about = refl; count_is = omega arith; rows = λ i h. inl h }
 
 row_stays : {a b : World} → Grows a b → (i : ℕ) → IsQueueRow a i → IsQueueRow b i
 row_stays g i r = record { row = r.row; here = g.ended i r.row r.here r.ended; event = r.event; ended = r.ended }

@@ -7,6 +7,7 @@ use Rattle.word_store.specs.Joined.{MayClose}
 use Rattle.version_book.specs.Pass.{Pass, pass_of}
 use Rattle.version_book.specs.RowSteps.{IsCaller}
 use Rattle.version_book.specs.Calls.{IsIdle}
+use Rattle.version_book.proofs.InOrder.{same_parts}
 use Rattle.store_runs.specs.Crews.{AreFresh}
 use Rattle.store_runs.proofs.Handed.{got_push}
 
@@ -24,9 +25,6 @@ pub fresh_more : {X : Type 0} (nodes rows callers first : ℕ) (f : X → Pass) 
 fresh_more nodes rows callers first f xs x n len fresh own j p e =
     ⊎_elim (λ old. fresh j p old) (λ new. sym new.0 ∙ (own ∙ ap (λ (k : ℕ). pass_of (opened_view nodes rows callers (first + k)) (first + k)) (sym len ∙ sym new.1))) (got_push f xs x j p e)
 
-both : (v w : View) (a b : ℕ) → v ≡ w → a ≡ b → pass_of v a ≡ pass_of w b
-both v w a b e f = rw (e, f) refl
-
 sized : (n n' r r' k k' c c' : ℕ) → n ≡ n' → r ≡ r' → k ≡ k' → c ≡ c' → opened_view n r k c ≡ opened_view n' r' k' c'
 sized n n' r r' k k' c c' a b d e = rw (a, b, d, e) refl
 
@@ -35,4 +33,4 @@ pub fresh_pass : (p : Pass) (v : View) (caller n n' r r' k k' c c' : ℕ) → p 
 fresh_pass p v caller n n' r r' k k' c c' is own opened a b d e =
     let number : Some caller ≡ Some c = sym own ∙ ap (λ (w : View). w.about.caller) opened in
     let same : caller ≡ c = cc in
-    is ∙ both v (opened_view n' r' k' c') caller c' (opened ∙ sized n n' r r' k k' c c' a b d e) (same ∙ e)
+    is ∙ same_parts v (opened_view n' r' k' c') caller c' (opened ∙ sized n n' r r' k k' c c' a b d e) (same ∙ e)

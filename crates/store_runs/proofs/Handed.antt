@@ -1,6 +1,8 @@
 -- Lists that are handed over, one element after the other from the end.
 use Rattle.std.proofs.Common.{◌≡◌, ℕ, zero, suc, ◌+◌, arith, ◌⊎◌, inl, inr, List, [], ◌∷◌, ◌++◌, length, map, refl, sym, ap, ◌∙◌, Some, None, ⊎_elim}
-use Rattle.std.specs.Prelude.{slice_get, Option, MatchOption}
+use Rattle.std.specs.Prelude.{slice_get, Option, MatchOption, reverse}
+use Rattle.std.proofs.lemmas.List.{map-append, reverse-append, reverse-reverse}
+use Rattle.word_store.proofs.Gathering.{taken}
 use Rattle.store_runs.specs.Crews.{HasAll}
 
 -- what is got of a list with one more at its end, after a function
@@ -39,6 +41,19 @@ one_handed f g all xs xs' x ys ys' y from to same each j z e = ⊎_elim
 pub all_handed : {X Z : Type 0} (f : X → Z) (all : List Z) (xs : List X) (to : List Z) → length xs ≡ 0 → IsInEither all (map f xs) to → HasAll all to
 all_handed f all [] to none each j z e = ⊎_elim (λ here. absurd (let n : None ≡ Some z = here in cc)) (λ there. there) (each j z e)
 all_handed f all (x ∷ xs) to none each j z e = absurd (omega (arith, none))
+
+-- both lists together, the second one backwards, are as the first one was
+pub still_ordered : {X Y Z : Type 0} (f : X → Z) (g : Y → Z) (all : List Z) (xs xs' : List X) (x : X) (ys ys' : List Y) (y : Y) → xs ≡ xs' ++ x ∷ [] → ys' ≡ ys ++ y ∷ [] → f x ≡ g y → map f xs ++ reverse (map g ys) ≡ all → map f xs' ++ reverse (map g ys') ≡ all
+still_ordered {Y = Y} f g all xs xs' x ys ys' y from to same e =
+    ap (λ l. map f xs' ++ reverse (map g l)) to ∙ (ap (λ l. map f xs' ++ l) pushed ∙ (ap (λ z. map f xs' ++ z ∷ reverse (map g ys)) (sym same) ∙ taken f xs' x (reverse (map g ys)) all (ap (λ l. map f l ++ reverse (map g ys)) (sym from) ∙ e)))
+  where
+    pushed : reverse (map g (ys ++ y ∷ [])) ≡ g y ∷ reverse (map g ys)
+    pushed = ap reverse (map-append g ys (y ∷ [])) ∙ reverse-append (map g ys) (g y ∷ [])
+
+-- once the first list is empty, the second one is all, backwards
+pub all_ordered : {X Z : Type 0} (f : X → Z) (all : List Z) (xs : List X) (zs : List Z) → length xs ≡ 0 → map f xs ++ reverse zs ≡ all → zs ≡ reverse all
+all_ordered f all [] zs none e = sym (reverse-reverse zs) ∙ ap reverse e
+all_ordered f all (x ∷ xs) zs none e = absurd (omega (arith, none))
 
 -- what ends the loop: nothing was left to take
 pub none_left : {X : Type 0} (o : Option X) (m n : ℕ) → ((x : X) → o ≡ Some x → ⊥) → MatchOption o ((n ≡ 0) × (m ≡ 0)) (λ _. m + 1 ≡ n) → n ≡ 0

@@ -5,3 +5,5 @@ pub mod Turns
 pub mod Heads
 pub mod Extending
 pub mod Streams
+pub mod LastBook
+pub mod Shares

@@ -1,6 +1,7 @@
 -- One turn at a suspension, from its prepare to its completion or to the claim that is given back.
 use Rattle.std.proofs.Common.{◌≡◌, ℕ, ◌+◌, ◌-◌, ◌*◌, ◌<◌, ◌≤◌, Bool, true, cond, ◌&&◌, List, [], ◌∷◌, drop, map, refl, sym, ap, ◌∙◌, arith, subst, Some}
 use Rattle.std.proofs.lemmas.Grind.{common_steps}
+use Rattle.std.proofs.lemmas.Bool.{or_left, eq-eqb}
 use Rattle.lazy_rec.specs.declared.places.Ref.{Ref}
 use Rattle.lazy_rec.specs.declared.records.Rec.{Rec}
 use Rattle.lazy_rec.specs.Named.{is_pending}
@@ -9,10 +10,10 @@ use Rattle.heap_store.specs.declared.claims.Full.{Full}
 use Rattle.heap_store.specs.declared.claims.HeldClaim.{HeldClaim}
 use Rattle.heap_store.specs.declared.claims.OpenRow.{OpenRow}
 use Rattle.heap_store.specs.Span.{Span}
-use Rattle.heap_store.specs.World.{World, recs}
+use Rattle.heap_store.specs.World.{World, recs, is_claimed_at}
 use Rattle.heap_store.specs.Growth.{Grows}
 use Rattle.heap_store.specs.Lawful.{IsLawful}
-use Rattle.heap_store.specs.Hand.{Hand, claim_places, holds_claim, fresh_claim, is_unbuilt, places_of_steps, credits_at, without, without_claim}
+use Rattle.heap_store.specs.Hand.{Hand, contains, claim_places, holds_claim, fresh_claim, is_unbuilt, places_of_steps, credits_at, without, without_claim}
 use Rattle.heap_store.specs.Budget.{is_funded, is_funded_at}
 use Rattle.heap_store.specs.View.{View, About, Refusals, IsLawfulView, Quiet, IsWon, Reserved, Refused, Completed, GivenUp}
 use Rattle.heap_store.specs.Jobs.{Readiness, IsWork, IsNeed, IsReady, IsBuildable, IsBuilt}
@@ -24,6 +25,7 @@ use Rattle.heap_store.proofs.UnitLaws.{funded_up}
 use Rattle.force_engine.specs.Forced.{IsKept}
 use Rattle.force_engine.proofs.Finish.{without-fresh}
 use Rattle.force_engine.proofs.Growing.{IsWork-grows}
+use Rattle.word_store.proofs.HandLaws.{claim_there}
 use Rattle.store_runs.specs.Tries.{LeavesHand}
 
 -- ---- what the hand has
@@ -98,6 +100,9 @@ module _ (told : Readiness) (v w x : View) (s : Ref) (nodes : ℕ) (idle : v.han
 
   pub one : x.hand.claims ≡ fresh_claim s ∷ []
   one = ap (λ (h : Hand). h.claims) won.hand ∙ ap (λ cs. fresh_claim s ∷ cs) none
+
+  pub claimed : IsLawfulView x → is_claimed_at x.seen s.0 ≡ true
+  claimed law = claim_there x.seen x.hand law.hand s.0 (ap (λ cs. contains (claim_places cs) s.0) one ∙ or_left _ _ (eq-eqb s.0 s.0 refl))
 
   more : x.hand.allowance ≡ v.hand.allowance + places_of_steps (recs w.seen) s.0
   more = (let e = ap (λ (h : Hand). h.allowance) won.hand in let f = ap (λ (h : Hand). h.allowance) q.hand in omega (arith, e, f))

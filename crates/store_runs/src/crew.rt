@@ -1,13 +1,13 @@
 //! The callers of a store: at work under names of their own, at rest, and closed with the store.
-ghost use Rattle.std.specs.Prelude.{◌≡◌, ℕ, ◌+◌, ◌<◌, ◌≤◌, [], Some, None, length, map, slice_get, IfSome};
+ghost use Rattle.std.specs.Prelude.{◌≡◌, ℕ, ◌+◌, ◌<◌, ◌≤◌, [], Some, None, length, map, reverse, slice_get, IfSome};
 ghost use Rattle.std.specs.Vec.{vec_len};
 ghost use Rattle.heap_store.specs.View.{View};
 ghost use Rattle.heap_store.specs.Growth.{Grows};
 ghost use Rattle.word_store.specs.Passes.{view_of};
 ghost use Rattle.word_store.specs.Stores.{store_id, next_caller, caller_count, place_count, row_count};
-ghost use Rattle.word_store.specs.Closing.{IsLast};
+ghost use Rattle.word_store.specs.Closing.{IsLast, IsClosing};
 ghost use Rattle.store_runs.specs.Crews.{AreFresh, HasAll, HasBegun};
-ghost use Rattle.store_runs.specs.Tries.{LeavesHand};
+ghost use Rattle.store_runs.specs.Tries.{LeavesHand, IsShare};
 
 use crate::tries::{Share, force_in_turns, need_of_head};
 use force_engine::Stack;
@@ -95,7 +95,8 @@ impl<J: Naming> Worker<J> {
 impl<J: Naming> Resting<J> {
     /// Forces what `head` of a version needs, in so many turns at most. A number of no version needs nothing.
     pub fn force_head(&mut self, version: u32, turns: u32)
-        ensures { LeavesHand (view_of self.old.heap.pass) (view_of self.new.heap.pass) }
+        ensures leaves { LeavesHand (view_of self.old.heap.pass) (view_of self.new.heap.pass) }
+        ensures share { IsShare (view_of self.old.heap.pass).seen (view_of self.new.heap.pass).seen self.old.share self.new.share }
     {
         if version == 0 || version > self.heap.rows() {
             return;
@@ -121,7 +122,8 @@ pub fn rest_all<J: Naming>(alloc: Global, mut workers: Vec<Worker<J>>) -> Option
     Some(all)
 }
 
-/// Closes the store with all its callers. Its last world extends what each of them had seen.
+/// Closes the store with all its callers. Its last world extends what each of them had seen, and all is told that `Store::close` tells of
+/// their passes, from the last caller's on.
 pub fn close_all<J: Naming>(
     alloc: Global,
     store: Store,
@@ -131,6 +133,7 @@ pub fn close_all<J: Naming>(
     requires all { vec_len callers ≡ next_caller store }
     ensures last { IfSome result IsLast }
     ensures rows { IfSome result (λ l. length l.world.rows ≡ row_count store) }
+    ensures closing { IfSome result (λ l. IsClosing (place_count store) (row_count store) (caller_count store) (reverse (map (λ r. r.heap.pass) callers.items)) l) }
     ensures seen { IfSome result (λ l. (j : ℕ) (v : View) → slice_get (map (λ r. view_of r.heap.pass) callers.items) j ≡ Some v → Grows v.seen l.world) }
 {
     let mut passes = Vec::new(alloc);

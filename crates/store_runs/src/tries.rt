@@ -9,7 +9,7 @@ ghost use Rattle.heap_store.specs.Jobs.{IsWork};
 ghost use Rattle.heap_store.specs.declared.jobs.Stage.TheVariants.{Start};
 ghost use Rattle.kind_table.specs.Kinds.{is_any_work};
 ghost use Rattle.force_engine.specs.Forced.{IsKept};
-ghost use Rattle.store_runs.specs.Tries.{LeavesHand, Told};
+ghost use Rattle.store_runs.specs.Tries.{LeavesHand, Told, with_one, CountsOne, IsShare};
 
 use heap_store::{Claim, Claims, Cursor, EventJob, Full, Heap, Jobs, Prep, Rows, Stage, Version};
 use kind_table::{is_built, prepare_event};
@@ -17,7 +17,7 @@ use lazy_rec::{Op, Ref};
 use std::thread;
 use version_book::{Look, look};
 
-/// How many suspensions a caller has completed, and the steps that they took.
+/// How many suspensions a caller has completed, and the steps that they took: each call that is handed it says which it has counted.
 #[derive(Clone, Copy, Debug, PartialEq, Eq)]
 pub struct Share {
     pub forced: u32,
@@ -35,7 +35,10 @@ impl Share {
         }
     }
 
-    fn add(&mut self, steps: u32) {
+    /// One suspension more.
+    fn add(&mut self, steps: u32)
+        ensures { self.new ≡ with_one self.old steps }
+    {
         self.forced = self.forced.saturating_add(1);
         self.steps = self.steps.saturating_add(u64::from(steps));
     }
@@ -58,6 +61,7 @@ pub fn take_turn<C: Claims, J: Jobs>(heap: &mut C, jobs: &J, s: Ref, share: &mut
     requires funded { is_funded_at (C.view heap.old).seen s.0 ≡ true }
     ensures leaves { LeavesHand (C.view heap.old) (C.view heap.new) }
     ensures told { Told (J.does jobs.now) (C.view heap.new) s.0 result }
+    ensures share { CountsOne (C.view heap.old).seen (C.view heap.new).seen s.0 share.old share.new }
 {
     let mut cursor = Cursor::new();
     let nodes = match jobs.prepare(heap, s, &mut cursor) {
@@ -98,6 +102,7 @@ pub fn force_in_turns<C: Claims, J: Jobs>(
     requires funded { is_funded_at (C.view heap.old).seen s.0 ≡ true }
     ensures leaves { LeavesHand (C.view heap.old) (C.view heap.new) }
     ensures kept { IfSome result (λ place. IsKept (C.view heap.new).seen s.0 place.0) }
+    ensures share { IsShare (C.view heap.old).seen (C.view heap.new).seen share.old share.new }
 {
     let mut at = s;
     for _ in 0..turns {

@@ -33,7 +33,7 @@ claims_are_once k s o i j u v ne at at' p had = false_by _ (λ also. (
     let t = terms_le (λ (x : Sight). one_if (holds_claim x.hand p)) s.views i j u v (λ z. ne (sym z)) at at' in let most = one_most (is_claimed_at (shows k s.words) p) in
     omega (arith, t, most, o.claims p, one_true _ had, one_true _ also)))
 
-done_unclaimed : (w : World) (p : ℕ) → is_done w p ≡ true → is_claimed_at w p ≡ true → ⊥
+pub done_unclaimed : (w : World) (p : ℕ) → is_done w p ≡ true → is_claimed_at w p ≡ true → ⊥
 done_unclaimed w p = by (node_at w p)
   where
     by : (n : Option Node) → is_some_and (λ d. true) (option_and_then (λ (m : Node). kept m.state) n) ≡ true → is_some_and (λ (m : Node). is_claimed m.state) n ≡ true → ⊥

@@ -1,8 +1,9 @@
-use Rattle.std.proofs.Common.{ap, ◌∙◌}
+use Rattle.std.proofs.Common.{ap, ◌∙◌, inl, refl}
 use Rattle.heap_store.specs.Hand.{Hand}
 use Rattle.heap_store.proofs.GrowthLaws.{grows_trans}
 use Rattle.force_engine.proofs.Growing.{IsWork-grows, IsWork-pending, IsWork-published, cursor_fits-grows, cursor_fits-new}
-use Rattle.store_runs.proofs.Turns.{funded_grows, leaves_quiet, leaves_trans, need_funded, back, leaves_refused, buildable, leaves_done}
+use Rattle.store_runs.proofs.Turns.{funded_grows, leaves_quiet, leaves_trans, need_funded, back, leaves_refused, buildable, leaves_done, claimed}
+use Rattle.store_runs.proofs.Shares.{counts_one}
 use Rattle.store_runs.proofs.tries.take_turn.Goals as goal
 
 pub prepare-requires-clause-cursor : goal.prepare-requires-clause-cursor
@@ -43,3 +44,20 @@ returns-in-Err-clause-leaves g c = leaves_refused (g.J.Jobs.told c.args.jobs.now
 
 pub returns-in-Ok-clause-leaves : goal.returns-in-Ok-clause-leaves
 returns-in-Ok-clause-leaves g c = leaves_done (g.J.Jobs.told c.args.jobs.now) (g.C.Heap.view c.args.heap.now) (g.C.Heap.view c.prepare.new.h) (g.C.Heap.view c.claim.new.self) c.args.s c.in-Ready.nodes c.requires.idle c.prepare.ensures.quiet c.in-Ready.ensures.answer c.in-Won.ensures (g.C.Heap.view c.reserve.new.self) c.in-Ok.run' c.in-Ok.ensures.ok (g.met.C.Heap.lawful c.prepare.new.h) (g.C.Heap.view c.build-built.new.h) c.build-built.new.run c.build-built.result.place.0 c.build-built.result.steps c.build-built.ensures (g.C.Heap.view c.complete.new.self) c.complete.ensures
+
+pub returns-in-Need-clause-share : goal.returns-in-Need-clause-share
+returns-in-Need-clause-share g c = inl refl
+
+pub returns-in-Done-clause-share : goal.returns-in-Done-clause-share
+returns-in-Done-clause-share g c = inl refl
+
+pub returns-in-Busy-clause-share : goal.returns-in-Busy-clause-share
+returns-in-Busy-clause-share g c = inl refl
+
+pub returns-in-Err-clause-share : goal.returns-in-Err-clause-share
+returns-in-Err-clause-share g c = inl refl
+
+pub returns-in-Ok-clause-share : goal.returns-in-Ok-clause-share
+returns-in-Ok-clause-share g c = counts_one (grows_trans c.prepare.ensures.quiet.grows c.in-Won.ensures.grows) c.args.s.0 c.build-built.result.place.0 c.build-built.result.steps
+    (claimed (g.J.Jobs.told c.args.jobs.now) (g.C.Heap.view c.args.heap.now) (g.C.Heap.view c.prepare.new.h) (g.C.Heap.view c.claim.new.self) c.args.s c.in-Ready.nodes c.requires.idle c.prepare.ensures.quiet c.in-Ready.ensures.answer c.in-Won.ensures (g.met.C.Heap.lawful c.claim.new.self))
+    c.complete.ensures.done c.add.ensures
