@@ -11,11 +11,8 @@ use Rattle.heap_store.specs.Growth.{Grows}
 use Rattle.heap_store.specs.Lawful.{IsLawful}
 use Rattle.heap_store.specs.Values.{value_place}
 use Rattle.heap_store.specs.View.{View, IsLawfulView, Quiet}
-use Rattle.heap_store.proofs.LawfulLaws.{lawful_names}
-use Rattle.heap_store.proofs.MeaningLaws.{means_kept}
 use Rattle.heap_store.proofs.Steps.{Quiet_trans}
 use Rattle.finger_level.specs.declared.few.Few.{Few}
-use Rattle.finger_level.specs.declared.few.WeighedFew.{WeighedFew}
 use Rattle.finger_level.specs.declared.few.Weight.{Weight}
 use Rattle.finger_level.specs.declared.level.Digit.TheVariants as digits
 use Rattle.finger_level.specs.declared.level.Middle.TheVariants as middles
@@ -26,14 +23,13 @@ use Rattle.finger_level.specs.declared.level.Side.TheVariants as sides
 use Rattle.finger_level.specs.Few.{few_list}
 use Rattle.finger_level.specs.Level.{made_of, middle_of, middle_items, items_of_made}
 use Rattle.finger_level.specs.Keyed.{HasKeys, AreKeyed, KeyedLevel, key_in}
-use Rattle.finger_level.specs.Reads.{is_element, is_digit_rec, IsDigitAt, IsWeighedAt}
+use Rattle.finger_level.specs.Reads.{is_element, is_digit_rec, IsDigitAt}
 use Rattle.finger_level.specs.Pushes.{beside}
 use Rattle.finger_level.specs.Puts.{IsElement, LevelAsk}
 use Rattle.finger_level.specs.Pops.{level_by, IsUpper, IsDrawn, IsWhole, IsRootAt, IsRest}
 use Rattle.finger_level.specs.NearPuts.{NearAsk, NearPut}
 use Rattle.finger_level.specs.NearDraws.{DrawnAsk, DrawnPut}
 use Rattle.finger_level.specs.NearPops.{PoppedAsk, PoppedPut}
-use Rattle.finger_level.proofs.Builds.{digit_means}
 use Rattle.finger_level.proofs.Draws.{deep_digits, all_near, both_flat, by_elements, by_items}
 use Rattle.finger_level.proofs.Families.{tree_size}
 use Rattle.finger_level.proofs.Found.{IsValueAt, digit_grows, value_tree}
@@ -66,13 +62,6 @@ put_earlier law q k = record {
 
 pub taking_up : {a b : World} → Grows a b → {side : Side} {root : ℕ} {left middle right near far e : Ref} {rest : _} {n : Few} → Taking a side root left middle right near far e rest n → Taking b side root left middle right near far e rest n
 taking_up g k = record { size = k.size; key = k.key; here = g.records _ _ k.here; ends = k.ends; near_at = digit_grows g _ _ k.near_at; taken = k.taken }
-
--- a digit's weight in a later world
-pub weight_up : {a b : World} → IsLawful a → IsLawful b → Grows a b → (p : ℕ) (d : WeighedFew) → IsWeighedAt a p d → d.weight.size ≡ length (flat_map (means (recs b)) (few_list d.few))
-weight_up {a} {b} law law2 g p d k =
-    let one = digit_means law p d.few k.shown in
-    let two = digit_means law2 p d.few (digit_grows g p d.few k.shown) in
-    k.size ∙ ap length (sym one ∙ (means_kept (recs a) (recs b) (lawful_names law) g.records p (_, k.shown.here) ∙ two))
 
 -- ---- elements of the digit are left
 

@@ -9,7 +9,8 @@ use Rattle.finger_level.proofs.Draws.{deep_digits, deep_node, upper_up}
 use Rattle.finger_level.proofs.Found.{digit_grows}
 use Rattle.finger_level.proofs.Popping.{Taking}
 use Rattle.finger_level.proofs.PopNeeds.{digit_up}
-use Rattle.finger_level.proofs.NearPops.{weight_up, far_few}
+use Rattle.finger_level.proofs.NearPushes.{weighed_up as near_up}
+use Rattle.finger_level.proofs.NearPops.{far_few}
 use Rattle.finger_level.proofs.NearDraws.{drawn_later, drawn_earlier, weighed_up, weighed_few, NodeTaken, node_taken, first_near, second_near, drawn_put}
 use Rattle.finger_level.proofs.near_draws.put_drawn.Goals as goal
 use Rattle.finger_level.proofs.near_draws.put_drawn.Goals.{After-read_weighed-digit, In-Some, After-read_weighed_node-node}
@@ -95,7 +96,7 @@ sizes g c =
     let law1 = (g.met.H.Heap.lawful c.read.new.self).world in
     let law = (g.met.H.Heap.lawful c.read_weighed_node-node.new.h).world in
     let up = Quiet_trans c.read_weighed-digit.ensures.quiet c.read_weighed_node-node.ensures.quiet in
-    let weighs = weight_up law1 law up.grows c.both_ends.result.0.0 c.read_weighed-digit.result c.read_weighed-digit.ensures.weighed in
+    let weighs = (near_up law1 law up.grows c.both_ends.result.0.0 c.read_weighed-digit.result c.read_weighed-digit.ensures.weighed).size in
     node_taken law c.args.side c.args.q.0 c.in-Deep.left c.in-Deep.middle c.in-Deep.right c.both_ends.result.0 c.both_ends.result.1 c.take_end-taken.result.element c.in-Some.rest c.read_weighed-digit.result.few (taken_here g c) (upper g c) c.read_weighed-digit.result.weight.size c.read_weighed_node-node.result.weight.size weighs (node g c).size
 
 pub without-less-requires : goal.without-less-requires

@@ -13,7 +13,8 @@ use Rattle.finger_level.proofs.Draws.{deep_digits}
 use Rattle.finger_level.proofs.Found.{digit_grows}
 use Rattle.finger_level.proofs.Keying.{keyed_up, keyed_items}
 use Rattle.finger_level.proofs.Popping.{Taking, whole_up, deep_middle}
-use Rattle.finger_level.proofs.NearPops.{ask_later, put_earlier, taking_up, weight_up, far_few, left_keyed, rest_each, Lessened, lessened, left_ask, left_near, left_put, none_upper, none_digit, none_ask, none_put, none_pending}
+use Rattle.finger_level.proofs.NearPushes.{weighed_up as near_up}
+use Rattle.finger_level.proofs.NearPops.{ask_later, put_earlier, taking_up, far_few, left_keyed, rest_each, Lessened, lessened, left_ask, left_near, left_put, none_upper, none_digit, none_ask, none_put, none_pending}
 use Rattle.finger_level.proofs.near_pops.put_popped.Goals as goal
 use Rattle.finger_level.proofs.near_pops.put_popped.Goals.{After-read_weighed-digit, In_default-rest, In-Some}
 
@@ -106,7 +107,7 @@ lesser g c =
     let u = whole_up (g.met.H.Heap.lawful c.args.h.now).world quiet.grows c.args.root.0 c.requires.tree in
     let far = far_few law2.world c.args.side c.args.root.0 c.in-Deep.left c.in-Deep.middle c.in-Deep.right c.both_ends.result.0 c.both_ends.result.1 c.take_end-taken.result.element c.in-Some.rest c.read_weighed-digit.result.few k in
     let ask = left_ask law2 c.args.side c.args.root.0 c.in-Deep.left c.in-Deep.middle c.in-Deep.right c.both_ends.result.0 c.both_ends.result.1 c.take_end-taken.result.element c.in-Some.rest c.read_weighed-digit.result.few k c.args.family c.args.whole quiet c.requires.ask far.0 far.1 in
-    let weighs = weight_up law1 law2.world c.read_weighed-digit.ensures.quiet.grows c.both_ends.result.0.0 c.read_weighed-digit.result c.read_weighed-digit.ensures.weighed in
+    let weighs = (near_up law1 law2.world c.read_weighed-digit.ensures.quiet.grows c.both_ends.result.0.0 c.read_weighed-digit.result c.read_weighed-digit.ensures.weighed).size in
     lessened law2.world c.args.side c.args.root.0 c.in-Deep.left c.in-Deep.middle c.in-Deep.right c.both_ends.result.0 c.both_ends.result.1 c.take_end-taken.result.element c.in-Some.rest c.read_weighed-digit.result.few k u c.args.whole c.read_weighed-digit.result.weight.size ask.counts weighs
 
 pub overflow_sub-size : goal.overflow_sub-size
