@@ -38,8 +38,8 @@ pub record IsLast (l : Last) : Type 0 where
   pub places : published_count l.world ≤ fixed_places + l.places
 
 -- It extends what each pass had seen, and each drawn name that no pass has in hand has a row that is ended. In a store with as many
--- nodes as its begun events may take no add was in vain: each drawn place is published. In another one full rows tell what was added in
--- vain, each of them one number, but for those that passes still had in hand. A single caller adds and draws nothing in vain.
+-- nodes as its begun events may take no add was in vain: each drawn place is published. In another one what was added in vain is what
+-- passes still had in hand and what some full rows wanted, each row taken once. A single caller adds and draws nothing in vain.
 pub record IsClosing (nodes rows callers : ℕ) (passes : List Pass) (l : Last) : Type 0 where
   pub last : IsLast l
   pub all_places : length l.world.nodes ≡ places_of nodes

@@ -40,8 +40,8 @@ abbrev pub VainIsShort : Type 0
 VainIsShort = (k : Size) (s : State ℕ Sight) → IsKept k s → (j : ℕ) (v : Sight) → get_elem? s.views j ≡ some v
     → 0 < v.wasted → k.nodes < direct_places (shows k s.words) + 8 * dues (shows k s.words)
 
--- The number of drawn places has those that are published or reserved, and what was added in vain. Of that some stands in hands, and full
--- rows tell the rest, each of them one number, once
+-- The number of drawn places has those that are published or reserved, and what was added in vain. Of that some stands in hands, and the
+-- rest is what some full rows wanted, each row taken once
 abbrev pub VainIsTold : Type 0
 VainIsTold = (k : Size) (s : State ℕ Sight) → IsKept k s
     → (vain : ℕ) × (rows : List ℕ) × (slice_index s.words 0 ≡ places_given (running k s.words s.views) + vain) × AreTold (shows k s.words) vain (sum_by (λ (h : Hand). added h.vain) (hands_of s.views)) rows

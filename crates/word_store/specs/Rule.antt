@@ -86,7 +86,7 @@ seat_count test views = sum_by (λ v. one_if (test v)) views
 abbrev pub hands_of : List Sight → List Hand
 hands_of views = map (λ (v : Sight). v.hand) views
 
--- so much was added in vain, of which so much stands in hands. Full rows tell the rest, each of them one number, once
+-- so much was added in vain, of which so much stands in hands. The rest is what some full rows wanted, each row taken once
 pub record AreTold (w : World) (vain held : ℕ) (rows : List ℕ) : Type 0 where
   pub once : all_distinct rows ≡ true
   pub full : (i : ℕ) → contains rows i ≡ true → is_some (refusal_at w i) ≡ true

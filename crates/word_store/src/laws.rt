@@ -33,8 +33,8 @@ pub fn vain_is_short()
     ensures { VainIsShort }
 {}
 
-/// The number of drawn places is that of the published and reserved ones, and what was added in vain. Full rows tell what was added in
-/// vain, but for what is still in a hand: each of these rows tells one number, and none is told by two rows.
+/// The number of drawn places is that of the published and reserved ones, and what was added in vain. What was added in
+/// vain is what is still in a hand and what some full rows wanted, each row taken once.
 pub fn vain_is_told()
     ensures { VainIsTold }
 {}
