@@ -36,6 +36,7 @@ pub struct WeighedFew {
 ghost use Rattle.finger_level.specs.Few.{digit_record, node_record};
 
 /// The record of a digit.
+#[inline(always)]
 pub(crate) fn digit(few: Few, weight: Weight) -> Rec
     ensures { result ≡ digit_record few weight }
 {
@@ -58,6 +59,7 @@ pub(crate) fn digit(few: Few, weight: Weight) -> Rec
 }
 
 /// The record of a node.
+#[inline(always)]
 pub(crate) fn node(group: Group, weight: Weight) -> Rec
     ensures { result ≡ node_record group weight }
 {

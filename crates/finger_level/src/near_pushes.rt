@@ -100,6 +100,7 @@ fn put_whole<H: Heap>(
 }
 
 /// A digit with one more element at the end of a side, where it has room.
+#[inline(always)]
 fn longer(side: Side, e: Ref, few: Few) -> Option<Few>
     ensures { (f : Few) → result ≡ Some f → few_list f ≡ beside side (e.0 ∷ []) (few_list few) }
 {

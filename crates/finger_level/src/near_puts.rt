@@ -14,6 +14,7 @@ use heap_store::{Heap, Run};
 use lazy_rec::{Rec, Ref};
 
 /// Publishes a digit of the weight `weight`, and the deep tree that has it on the side, over a middle and another digit that stand.
+#[inline(always)]
 pub(crate) fn put_near<H: Heap>(
     h: &mut H,
     side: Side,

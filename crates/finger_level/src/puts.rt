@@ -23,6 +23,7 @@ use heap_store::{Heap, Run};
 use lazy_rec::{Item, Rec, Ref};
 
 /// The weight of some elements. A tree without keys has 0 for each key.
+#[inline(always)]
 fn weigh_all<H: Heap>(h: &mut H, es: &[Ref], keyed: bool) -> Weight
     requires elements { AllByRecursion (λ e. holds (recs (H.view h.old).seen) e is_element ≡ true) (map (λ (r : Ref). r.0) es.now) }
     requires small { length (flat_map (means (recs (H.view h.old).seen)) (map (λ (r : Ref). r.0) es.now)) ≤ 2147483647 }
@@ -43,6 +44,7 @@ fn weigh_all<H: Heap>(h: &mut H, es: &[Ref], keyed: bool) -> Weight
     }
 }
 
+#[inline(always)]
 fn weigh_group<H: Heap>(h: &mut H, group: Group, keyed: bool) -> Weight
     requires elements { AllByRecursion (λ e. holds (recs (H.view h.old).seen) e is_element ≡ true) (group_list group) }
     requires small { length (flat_map (means (recs (H.view h.old).seen)) (group_list group)) ≤ 2147483647 }
@@ -72,6 +74,7 @@ pub(crate) fn weigh_few<H: Heap>(h: &mut H, few: Few, keyed: bool) -> Weight
 }
 
 /// Publishes a node of elements of one level.
+#[inline(always)]
 pub fn put_node<H: Heap>(h: &mut H, group: Group, keyed: bool, run: &mut Run) -> Ref
     requires { PartAsk (H.view h.old) run.old 1 (group_list group) }
     ensures put { NodePut (H.view h.old) (H.view h.new) run.old run.new group result.0 }
@@ -99,6 +102,7 @@ pub fn put_digit<H: Heap>(h: &mut H, part: Digit, keyed: bool, run: &mut Run) ->
 }
 
 /// Publishes a digit of elements of one level, whose weight is known.
+#[inline(always)]
 pub fn put_few<H: Heap>(h: &mut H, few: Few, weight: Weight, run: &mut Run) -> Ref
     requires part { PartAsk (H.view h.old) run.old 1 (few_list few) }
     requires counts { weight.size ≡ length (flat_map (means (recs (H.view h.old).seen)) (few_list few)) }
@@ -109,6 +113,7 @@ pub fn put_few<H: Heap>(h: &mut H, few: Few, weight: Weight, run: &mut Run) -> R
 }
 
 /// Publishes one or two nodes.
+#[inline(always)]
 fn put_nodes<H: Heap>(h: &mut H, nodes: Nodes, keyed: bool, run: &mut Run) -> Pushed
     requires { PartAsk (H.view h.old) run.old (nodes_places nodes) (all_of (nodes_list nodes)) }
     ensures put { NodesPut (H.view h.old) (H.view h.new) run.old run.new nodes result }
@@ -181,6 +186,7 @@ fn tree_or_empty(tree: Option<Ref>) -> Ref
     }
 }
 
+#[inline(always)]
 fn suspension(side: Side, tree: Ref, es: Pushed, origin: Ref, off: u8, weight: Weight) -> Rec
     ensures { result ≡ push_record side tree es origin off weight }
 {
