@@ -29,3 +29,4 @@ pub mod NearPuts
 pub mod NearPops
 pub mod NearDraws
 pub mod NearPushes
+pub mod Overflows

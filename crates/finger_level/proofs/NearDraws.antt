@@ -60,7 +60,7 @@ drawn_earlier q k = record {
 }
 
 -- a digit that an earlier world has
-digit_back : {a b : World} → Grows a b → (p : ℕ) → holds (recs a) p is_digit_rec ≡ true → (f : Few) → IsDigitAt b p f → IsDigitAt a p f
+pub digit_back : {a b : World} → Grows a b → (p : ℕ) → holds (recs a) p is_digit_rec ≡ true → (f : Few) → IsDigitAt b p f → IsDigitAt a p f
 digit_back {a} g p h f k = let t = at_true is_digit_rec (recs a p) h in record { weight = k.weight; here = t.1 ∙ (sym (g.records p t.0 t.1) ∙ k.here) }
 
 pub weighed_up : {a b : World} → IsLawful a → Grows a b → (e : ℕ) (node : WeighedFew) → IsWeighedNode a e node → IsWeighedNode b e node

@@ -110,10 +110,10 @@ pub more_items : (f : ℕ → List ℕ) (side : Side) (e : ℕ) (es more : List 
 more_items f side e es more same = ap (flat_map f) same ∙ (both_flat f side (e ∷ []) es ∙ ap (λ xs. beside side xs (flat_map f es)) (append-nil (f e)))
 
 -- what it weighs
-pub more_key : (side : Side) (keyed : Bool) (one own key : ℕ) (xs ys : List ℕ) → key ≡ cond keyed (max one own) 0 → one ≡ key_in keyed ys → (keyed ≡ true → own ≡ key_in true xs) → key ≡ key_in keyed (beside side xs ys)
+pub more_key : (side : Side) (keyed : Bool) (one own key : ℕ) (xs ys : List ℕ) → key ≡ cond keyed (max one own) 0 → (keyed ≡ true → one ≡ key_in true ys) → (keyed ≡ true → own ≡ key_in true xs) → key ≡ key_in keyed (beside side xs ys)
 more_key side false one own key xs ys is a b = is
-more_key sides.Left true one own key xs ys is a b = let x = key_both true xs ys in let y = b refl in omega (arith, is, a, y, x)
-more_key sides.Right true one own key xs ys is a b = let x = key_both true ys xs in let y = b refl in omega (arith, is, a, y, x)
+more_key sides.Left true one own key xs ys is a b = let x = key_both true xs ys in let y = b refl in let z = a refl in omega (arith, is, z, y, x)
+more_key sides.Right true one own key xs ys is a b = let x = key_both true ys xs in let y = b refl in let z = a refl in omega (arith, is, z, y, x)
 
 -- ---- the level that is made
 

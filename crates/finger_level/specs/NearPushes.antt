@@ -1,19 +1,28 @@
 -- The put of a value onto which elements are pushed.
-use Rattle.std.specs.Prelude.{◌≡◌, ℕ, Bool}
+use Rattle.std.specs.Prelude.{◌≡◌, ℕ, Bool, [], ◌∷◌, length}
 use Rattle.lazy_rec.specs.Meaning.{means}
 use Rattle.heap_store.specs.Span.{Span}
 use Rattle.heap_store.specs.World.{recs}
 use Rattle.heap_store.specs.Lawful.{IsLawful}
 use Rattle.heap_store.specs.View.{View, Quiet}
+use Rattle.finger_level.specs.declared.few.Few.{Few}
 use Rattle.finger_level.specs.declared.few.Weight.{Weight}
+use Rattle.finger_level.specs.declared.near_pushes.Overflow.{Overflow}
 use Rattle.finger_level.specs.declared.level.Level.{Level}
 use Rattle.finger_level.specs.declared.level.Side.{Side}
 use Rattle.finger_level.specs.declared.level.Pushed.{Pushed}
 use Rattle.finger_level.specs.declared.level.Family.{Family}
+use Rattle.finger_level.specs.Few.{few_list, group_list}
 use Rattle.finger_level.specs.Level.{made_of, items_of_made}
 use Rattle.finger_level.specs.Keyed.{HasKeys, AreKeyed, key_in}
-use Rattle.finger_level.specs.Pushes.{pushed_list, IsPushed}
+use Rattle.finger_level.specs.Pushes.{pushed_list, beside, IsPushed}
 use Rattle.finger_level.specs.Puts.{LevelAsk, LevelPut}
+
+-- a full digit onto which an element is pushed keeps it and the one next to it, and the other three go into a node
+pub record IsOverflow (side : Side) (e : ℕ) (few : Few) (over : Overflow) : Type 0 where
+  pub kept : few_list over.kept ≡ beside side (e ∷ []) (over.next.0 ∷ [])
+  pub three : length (group_list over.node) ≡ 3
+  pub full : few_list few ≡ beside side (over.next.0 ∷ []) (group_list over.node)
 
 -- what the push asks: whatever is read before, the level that it makes can be put
 abbrev pub PushedAsk : View → Span → Side → Pushed → ℕ → Family → Weight → Type 0

@@ -1,19 +1,19 @@
-//! A value with elements pushed onto an end is put. Of one element, where the digit at that end has room, only the root and that digit
-//! are read.
-ghost use Rattle.std.specs.Prelude.{◌≡◌, ◌≤◌, ◌+◌, ◌∷◌, [], Some, max, true, cond};
+//! A value with elements pushed onto an end is put. Of one element onto a deep tree only the root and the digit at that end are read, and
+//! where that digit overflows what its elements and the middle weigh.
+ghost use Rattle.std.specs.Prelude.{◌≡◌, ◌≤◌, ◌+◌, ◌∷◌, [], Some, None, length, max, true, cond};
 ghost use Rattle.std.specs.List.{AllByRecursion};
 ghost use Rattle.heap_store.specs.World.{recs, holds};
 ghost use Rattle.finger_level.specs.Few.{few_list};
 ghost use Rattle.finger_level.specs.Reads.{is_element, is_tree_value, IsWeight};
 ghost use Rattle.finger_level.specs.Pushes.{pushed_list, beside};
-ghost use Rattle.finger_level.specs.NearPushes.{PushedAsk, PushedPut};
+ghost use Rattle.finger_level.specs.NearPushes.{IsOverflow, PushedAsk, PushedPut};
 
-use crate::few::{Few, Weight};
-use crate::level::{Family, Pushed, Side};
+use crate::few::{Few, Group, Weight};
+use crate::level::{Family, Nodes, Pushed, Side};
 use crate::near_puts::put_near;
 use crate::pops::both_ends;
 use crate::pushes::pushed_level;
-use crate::puts::put_level;
+use crate::puts::{put_level, put_push};
 use crate::reads::{read_weighed, weigh};
 use heap_store::{Heap, Run};
 use lazy_rec::{Item, Rec, Ref};
@@ -48,7 +48,12 @@ pub fn put_pushed<H: Heap>(
     let (near, far) = both_ends(side, left, right);
     let digit = read_weighed(h, near);
     let Some(few) = longer(side, e, digit.few) else {
-        return put_whole(h, side, Pushed::One(e), root, whole, family, keyed, run);
+        let over = overflowed(side, e, digit.few);
+        let next = weigh(h, over.next);
+        let node = Nodes::One(over.node);
+        let below = put_push(h, side, Some(middle), node, family, keyed, run);
+        let weight = weigh_both(next, own, keyed);
+        return put_near(h, side, over.kept, weight, below, far, whole, run);
     };
     let weight = weigh_both(digit.weight, own, keyed);
     put_near(h, side, few, weight, middle, far, whole, run)
@@ -79,7 +84,7 @@ pub fn put_pushes<H: Heap>(
     }
 }
 
-/// The same by the whole level that the push makes: of two elements, of a tree of no or one element, or where the digit overflows.
+/// The same by the whole level that the push makes: of two elements, or onto a tree of no or one element.
 #[inline(never)]
 fn put_whole<H: Heap>(
     h: &mut H,
@@ -102,7 +107,8 @@ fn put_whole<H: Heap>(
 /// A digit with one more element at the end of a side, where it has room.
 #[inline(always)]
 fn longer(side: Side, e: Ref, few: Few) -> Option<Few>
-    ensures { (f : Few) → result ≡ Some f → few_list f ≡ beside side (e.0 ∷ []) (few_list few) }
+    ensures longer { (f : Few) → result ≡ Some f → few_list f ≡ beside side (e.0 ∷ []) (few_list few) }
+    ensures full { result ≡ None → length (few_list few) ≡ 4 }
 {
     let more = match side {
         Side::Left => match few {
@@ -119,6 +125,38 @@ fn longer(side: Side, e: Ref, few: Few) -> Option<Few>
         },
     };
     Some(more)
+}
+
+/// A full digit onto which an element is pushed: the two elements that it keeps, of them the one that it had, and the node of the
+/// other three.
+#[derive(Clone, Copy)]
+pub struct Overflow {
+    pub kept: Few,
+    pub next: Ref,
+    pub node: Group,
+}
+
+/// What becomes of a full digit onto which an element is pushed.
+#[inline(always)]
+fn overflowed(side: Side, e: Ref, few: Few) -> Overflow
+    requires { length (few_list few) ≡ 4 }
+    ensures { IsOverflow side e.0 few result }
+{
+    let Few::Four(a, b, c, d) = few else {
+        unreachable!()
+    };
+    match side {
+        Side::Left => Overflow {
+            kept: Few::Two(e, a),
+            next: a,
+            node: Group::Three(b, c, d),
+        },
+        Side::Right => Overflow {
+            kept: Few::Two(d, e),
+            next: d,
+            node: Group::Three(a, b, c),
+        },
+    }
 }
 
 /// The weight of two parts. A tree without keys has 0 for each key.

@@ -221,7 +221,7 @@ fn suspension(side: Side, tree: Ref, es: Pushed, origin: Ref, off: u8, weight: W
 }
 
 /// Publishes nodes, and the suspension of their push onto a middle.
-fn put_push<H: Heap>(
+pub(crate) fn put_push<H: Heap>(
     h: &mut H,
     side: Side,
     tree: Option<Ref>,
