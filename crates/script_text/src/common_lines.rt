@@ -29,6 +29,17 @@ fn same_four(bytes: &[u8; 4], word: &[u8; 4]) -> bool
     u32::from_le_bytes(*bytes) == u32::from_le_bytes(*word)
 }
 
+// What follows four bytes at the beginning.
+#[inline(always)]
+fn after_four<'a>(bytes: &'a [u8], four: &[u8; 4]) -> Option<&'a [u8]>
+    ensures { IfSome result (λ r. bytes.entry.now ≡ four.now ++ r.now) }
+{
+    match bytes {
+        [a, b, c, d, rest @ ..] if same_four(&[*a, *b, *c, *d], four) => Some(rest),
+        _ => None,
+    }
+}
+
 // What follows a word of four letters and a space at the beginning.
 #[inline(always)]
 fn after_word<'a>(bytes: &'a [u8], word: &[u8; 4]) -> Option<&'a [u8]>
@@ -51,6 +62,48 @@ fn after_size(bytes: &[u8]) -> Option<&[u8]>
     }
 }
 
+// The same as `with_argument` of the words that scripts of sequences and heaps have most, by their first four bytes.
+#[inline(always)]
+fn often_with_argument(bytes: &[u8]) -> Option<(Op, &[u8])>
+    ensures word { IfSome result (λ r. bytes.entry.now ≡ op_word r.0 ++ 32 ∷ r.1.now) }
+    ensures syntax { IfSome result (λ r. op_syntax r.0 ≡ Argument r.0) }
+    ensures in_form { IfSome result (λ r. is_split r.0 ≡ false) }
+{
+    if let Some(rest) = after_four(bytes, b"push") {
+        return match rest {
+            [b'l', b' ', rest @ ..] => Some((Op::Pushl, rest)),
+            [b'r', b' ', rest @ ..] => Some((Op::Pushr, rest)),
+            _ => None,
+        };
+    }
+    match after_four(bytes, b"inse")? {
+        [b'r', b't', b' ', rest @ ..] => Some((Op::Insert, rest)),
+        _ => None,
+    }
+}
+
+// The same as `with_base` of such words.
+#[inline(always)]
+fn often_with_base(bytes: &[u8]) -> Option<(Op, &[u8])>
+    ensures word { IfSome result (λ r. bytes.entry.now ≡ op_word r.0 ++ 32 ∷ r.1.now) }
+    ensures syntax { IfSome result (λ r. op_syntax r.0 ≡ Base r.0) }
+    ensures in_form { IfSome result (λ r. is_split r.0 ≡ false) }
+{
+    if let Some(rest) = after_word(bytes, b"popl") {
+        return Some((Op::Popl, rest));
+    }
+    if let Some(rest) = after_word(bytes, b"popr") {
+        return Some((Op::Popr, rest));
+    }
+    if let Some(rest) = after_four(bytes, b"min ") {
+        return Some((Op::Min, rest));
+    }
+    match after_four(bytes, b"delm")? {
+        [b'i', b'n', b' ', rest @ ..] => Some((Op::Delmin, rest)),
+        _ => None,
+    }
+}
+
 // An operation with an argument, whose word and a space begin the bytes, and what follows them. `split`, which form 1 lacks, isn't
 // looked for.
 #[inline(always)]
@@ -61,9 +114,6 @@ fn with_argument(bytes: &[u8]) -> Option<(Op, &[u8])>
 {
     match bytes {
         [b'c', b'o', b'n', b's', b' ', rest @ ..] => Some((Op::Cons, rest)),
-        [b'i', b'n', b's', b'e', b'r', b't', b' ', rest @ ..] => Some((Op::Insert, rest)),
-        [b'p', b'u', b's', b'h', b'l', b' ', rest @ ..] => Some((Op::Pushl, rest)),
-        [b'p', b'u', b's', b'h', b'r', b' ', rest @ ..] => Some((Op::Pushr, rest)),
         [b'n', b't', b'h', b' ', rest @ ..] => Some((Op::Nth, rest)),
         [b't', b'a', b'k', b'e', b' ', rest @ ..] => Some((Op::Take, rest)),
         [b'd', b'r', b'o', b'p', b' ', rest @ ..] => Some((Op::Drop, rest)),
@@ -84,12 +134,8 @@ fn with_base(bytes: &[u8]) -> Option<(Op, &[u8])>
     match bytes {
         [b's', b'i', b'z', b'e', b' ', rest @ ..] => Some((Op::Size, rest)),
         [b'r', b'e', b'v', b'e', b'r', b's', b'e', b' ', rest @ ..] => Some((Op::Reverse, rest)),
-        [b'm', b'i', b'n', b' ', rest @ ..] => Some((Op::Min, rest)),
-        [b'd', b'e', b'l', b'm', b'i', b'n', b' ', rest @ ..] => Some((Op::Delmin, rest)),
         [b'm', b'a', b'x', b' ', rest @ ..] => Some((Op::Max, rest)),
         [b'd', b'e', b'l', b'm', b'a', b'x', b' ', rest @ ..] => Some((Op::Delmax, rest)),
-        [b'p', b'o', b'p', b'l', b' ', rest @ ..] => Some((Op::Popl, rest)),
-        [b'p', b'o', b'p', b'r', b' ', rest @ ..] => Some((Op::Popr, rest)),
         [b'f', b'i', b'r', b's', b't', b' ', rest @ ..] => Some((Op::First, rest)),
         [b'l', b'a', b's', b't', b' ', rest @ ..] => Some((Op::Last, rest)),
         _ => None,
@@ -244,6 +290,12 @@ fn other_event<'a>(before: &Script, bytes: &'a [u8]) -> Option<(Event, &'a [u8])
     requires { length before.now.events < MOST_EVENTS }
     ensures { IfSome result (λ r. IsCommonEvent before.now bytes.entry.now r.0 r.1.now) }
 {
+    if let Some((op, rest)) = often_with_argument(bytes) {
+        return argument_line(before, op, rest);
+    }
+    if let Some((op, rest)) = often_with_base(bytes) {
+        return base_line(before, op, rest);
+    }
     if let Some((op, rest)) = with_base(bytes) {
         return base_line(before, op, rest);
     }
