@@ -18,8 +18,7 @@ use Rattle.heap_store.specs.declared.jobs.EventJob.{EventJob}
 use Rattle.heap_store.specs.declared.jobs.After.TheVariants.{End}
 use Rattle.heap_store.specs.Span.{Span}
 use Rattle.heap_store.specs.World.{World, recs, holds}
-use Rattle.heap_store.specs.Completion as top
-use Rattle.heap_store.specs.Completion.{Made, top_of_record}
+use Rattle.heap_store.specs.Completion.{Made}
 use Rattle.heap_store.specs.Lawful.{IsLawful, is_of_level, keeps_keys}
 use Rattle.heap_store.specs.View.{View, Quiet, Put}
 use Rattle.heap_store.specs.Hand.{IsInHand}
@@ -37,6 +36,7 @@ use Rattle.finger_level.specs.declared.level.Pushed.TheVariants as pushes
 use Rattle.finger_level.specs.declared.level.Family.TheVariants.{First}
 use Rattle.finger_level.specs.Level.{made_of, places_of, made_places, kept_of, items_of_made}
 use Rattle.finger_level.proofs.Keying.{keyed_from}
+use Rattle.finger_level.proofs.PushPlaces.{same_places}
 use Rattle.finger_level.proofs.Pushing.{both_length}
 use Rattle.finger_level.proofs.Values.{level_is}
 use Rattle.finger_level.proofs.Tops.{top_well, rest_open, push_all_well}
@@ -64,25 +64,6 @@ use Rattle.heap_store.specs.declared.jobs.After.{After}
 use Rattle.std.proofs.lemmas.Bool.{ne_eqb}
 
 -- ---- places
-
--- the places of a push don't depend on the element
-same_places : (side : Side) (e k : ℕ) (m : Made) → made_places k (push_all side (e ∷ []) m) ≡ made_places k (push_all side (0 ∷ []) m)
-same_places sides.Left e k top.empty = refl
-same_places sides.Left e k (top.one x) = refl
-same_places sides.Left e k (top.deep [] m r) = refl
-same_places sides.Left e k (top.deep (a ∷ []) m r) = refl
-same_places sides.Left e k (top.deep (a ∷ b ∷ []) m r) = refl
-same_places sides.Left e k (top.deep (a ∷ b ∷ c ∷ []) m r) = refl
-same_places sides.Left e k (top.deep (a ∷ b ∷ c ∷ d ∷ []) m r) = refl
-same_places sides.Left e k (top.deep (a ∷ b ∷ c ∷ d ∷ f ∷ fs) m r) = refl
-same_places sides.Right e k top.empty = refl
-same_places sides.Right e k (top.one x) = refl
-same_places sides.Right e k (top.deep l m []) = refl
-same_places sides.Right e k (top.deep l m (a ∷ [])) = refl
-same_places sides.Right e k (top.deep l m (a ∷ b ∷ [])) = refl
-same_places sides.Right e k (top.deep l m (a ∷ b ∷ c ∷ [])) = refl
-same_places sides.Right e k (top.deep l m (a ∷ b ∷ c ∷ d ∷ [])) = refl
-same_places sides.Right e k (top.deep l m (a ∷ b ∷ c ∷ d ∷ f ∷ fs)) = refl
 
 push_room : (side : Side) (size : ℕ) (shown : Made) → size < 2147483647 → push_places side size shown ≡ suc (made_places (kept_of shown) (push_all side (0 ∷ []) shown))
 push_room side size shown few = cond-false (eqb size most_items) 0 _ (ne_eqb size most_items (λ z. omega (arith, z, few)))

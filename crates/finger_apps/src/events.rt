@@ -86,7 +86,7 @@ fn places_of_push<H: Heap>(h: &mut H, side: Side, base: &Version) -> u32
     if base.size == MOST_ITEMS {
         return 0;
     }
-    pushed_places(h, side, base.root) + 1
+    pushed_places(h, side, 1, base.root) + 1
 }
 
 /// An event that makes nothing ends at its base's root.

@@ -34,7 +34,7 @@ use Rattle.finger_level.specs.declared.level.Middle.TheVariants as middles
 use Rattle.finger_level.specs.declared.level.Level.TheVariants as levels
 use Rattle.finger_level.specs.Few.{few_list, no_place, digit_record, few_at, node_record, group_at}
 use Rattle.finger_level.specs.Reads.{is_tree_rec, is_tree_value, IsDigitAt, IsNodeAt, LevelRead, IsWeight, IsWeighedAt}
-use Rattle.finger_level.proofs.Records.{Counts, range_counts, node_counts}
+use Rattle.finger_level.proofs.Records.{Counts, range_counts, node_counts, digit_counts}
 
 -- ---- values
 
@@ -122,6 +122,18 @@ digit_elements w p f k = rw k.here (few_elements f k.weight)
 
 pub digit_grows : {a b : World} → Grows a b → (p : ℕ) (f : Few) → IsDigitAt a p f → IsDigitAt b p f
 digit_grows g p f k = record { weight = k.weight; here = g.records p _ k.here }
+
+-- and how many they are
+pub digit_count : {w : World} → IsLawful w → (p count : ℕ) (e1 e2 e3 e4 : Ref) (z : ℕ) (k : Item) → recs w p ≡ Some (Digit count e1 e2 e3 e4 z k) → count ≡ length (elements w p)
+digit_count law p count e1 e2 e3 e4 z k e = rw e (by count (digit_counts count e1 e2 e3 e4 z k (law.each p _ e).range))
+  where
+    by : (n : ℕ) → Counts 1 4 n → n ≡ length (elements_of (Digit n e1 e2 e3 e4 z k))
+    by zero c = refl
+    by (suc zero) c = refl
+    by (suc (suc zero)) c = refl
+    by (suc (suc (suc zero))) c = refl
+    by (suc (suc (suc (suc zero)))) c = refl
+    by (suc (suc (suc (suc (suc n))))) c = absurd (omega (arith, c.most))
 
 -- ---- nodes
 

@@ -25,6 +25,7 @@ pub mod TailPuts
 pub mod Draws
 pub mod Popping
 pub mod PopNeeds
+pub mod PushPlaces
 pub mod NearPuts
 pub mod NearPops
 pub mod NearDraws

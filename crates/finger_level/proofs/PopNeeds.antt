@@ -1,17 +1,17 @@
 -- What a pop needs, from the records that it reads.
-use Rattle.std.proofs.Common.{◌≡◌, ℕ, zero, suc, ◌≤◌, eqb, refl, sym, ap, ◌∙◌, arith, Bool, true, false, Some, None, List}
+use Rattle.std.proofs.Common.{◌≡◌, ℕ, ◌≤◌, eqb, refl, sym, ap, ◌∙◌, arith, Bool, true, false, Some, None, List, [], ◌∷◌, length}
 use Rattle.std.specs.Prelude.{cond}
 use Rattle.std.proofs.lemmas.Bool.{true≢false, ne_eqb}
 use Rattle.lazy_rec.specs.declared.places.Ref.{Ref}
 use Rattle.lazy_rec.specs.declared.places.Item.{Item}
 use Rattle.lazy_rec.specs.declared.records.Rec.{Rec}
-use Rattle.lazy_rec.specs.declared.records.Rec.TheVariants.{TEmpty, Digit, Single, Deep}
+use Rattle.lazy_rec.specs.declared.records.Rec.TheVariants.{TEmpty, Single, Deep}
 use Rattle.heap_store.specs.World.{World, recs, holds}
 use Rattle.heap_store.specs.Growth.{Grows}
 use Rattle.heap_store.specs.Values.{value_place}
 use Rattle.heap_store.specs.Lawful.{IsLawful}
 use Rattle.heap_store.specs.Completion as top
-use Rattle.heap_store.specs.Completion.{Made, elements, elements_of, of_digit}
+use Rattle.heap_store.specs.Completion.{Made, elements, of_digit}
 use Rattle.heap_store.proofs.GrowthLaws.{at_true}
 use Rattle.heap_store.proofs.ShowLaws.{one_value}
 use Rattle.finger_level.specs.declared.few.Few.{Few}
@@ -19,9 +19,10 @@ use Rattle.finger_level.specs.declared.few.Few.TheVariants as few
 use Rattle.finger_level.specs.declared.level.Side.{Side}
 use Rattle.finger_level.specs.declared.level.Side.TheVariants as sides
 use Rattle.finger_level.specs.Few.{few_list}
-use Rattle.finger_level.specs.Level.{made_places}
+use Rattle.finger_level.specs.Level.{made_places, drawn_kept}
 use Rattle.finger_level.specs.Reads.{is_digit_rec, is_tree_value}
-use Rattle.finger_level.specs.Pops.{both_ends, is_single, drawn_places, drawn_middle, pop_places, shown_at, PopReady, IsToDraw}
+use Rattle.finger_level.specs.Pops.{both_ends, from_middle, is_single, drawn_places, drawn_middle, pop_places, shown_at, PopReady, IsToDraw}
+use Rattle.finger_level.proofs.Draws.{deep_digits}
 use Rattle.finger_level.proofs.Found.{IsValueAt, digit_elements}
 use Rattle.finger_level.proofs.Popping.{deep_middle, few_there}
 
@@ -38,14 +39,11 @@ digit_up {a} g p h = let t = at_true is_digit_rec (recs a p) h in rw (g.records 
 pub single_up : {a b : World} → Grows a b → (p : ℕ) → holds (recs a) p is_digit_rec ≡ true → (one : Bool) → one ≡ is_single (elements a p) → one ≡ is_single (elements b p)
 single_up {a} g p h one is = let t = at_true is_digit_rec (recs a p) h in rw (g.records p t.0 t.1) (rw t.1 at is)
 
--- whether a digit's record has one element
-pub one_element : (w : World) (p count : ℕ) (a b c d : Ref) (z : ℕ) (k : Item) → recs w p ≡ Some (Digit count a b c d z k) → eqb count 1 ≡ is_single (elements w p)
-one_element w p count a b c d z k e = rw e (by count)
-  where
-    by : (n : ℕ) → eqb n 1 ≡ is_single (elements_of (Digit n a b c d z k))
-    by zero = refl
-    by (suc zero) = refl
-    by (suc (suc n)) = ne_eqb (suc (suc n)) 1 (λ q. omega (arith, q))
+-- whether a list has one element, by its length
+pub one_element : (es : List ℕ) (count : ℕ) → count ≡ length es → eqb count 1 ≡ is_single es
+one_element [] count n = rw n refl
+one_element (a ∷ []) count n = rw n refl
+one_element (a ∷ b ∷ es) count n = ne_eqb count 1 (λ q. omega (arith, q, n))
 
 -- ---- the places of what is drawn
 
@@ -73,6 +71,40 @@ pub count_of_deep : (w : World) (side : Side) (q p : ℕ) (left middle right nea
 count_of_deep w side q p left middle right near far z k e ends one is shown h =
     let same : top.deep (elements w left.0) (top.tree (Some middle.0)) (elements w right.0) ≡ shown = one_value _ _ (rw e at h) in
     rw (← same, is, ends_shown w side left right near far ends) refl
+
+-- what is made of a middle's value and a digit, and its places
+pub record IsDrawnUp (w : World) (side : Side) (r : Rec) (digit : List ℕ) (shown : Made) : Type 0 where
+  pub made : Made
+  pub makes : from_middle side w r digit ≡ Some made
+  pub places : drawn_places side digit shown ≡ made_places (drawn_kept shown) made
+
+of_deep : (w : World) (side : Side) (left middle right : Ref) (z : ℕ) (k : Item) (digit : List ℕ) (f : Few) → (both_ends side (elements w left.0) (elements w right.0)).0 ≡ few_list f → IsDrawnUp w side (Deep left middle right z k) digit (top.deep (elements w left.0) (top.tree (Some middle.0)) (elements w right.0))
+of_deep w sides.Left left middle right z k digit (few.One a) e = record { made = top.deep (elements w a.0) (top.without_left middle.0 (elements w right.0)) digit; makes = rw e refl; places = rw e refl }
+of_deep w sides.Left left middle right z k digit (few.Two a b) e = record { made = top.deep (elements w a.0) (top.shorter_left (b.0 ∷ []) middle.0 (elements w right.0)) digit; makes = rw e refl; places = rw e refl }
+of_deep w sides.Left left middle right z k digit (few.Three a b c) e = record { made = top.deep (elements w a.0) (top.shorter_left (b.0 ∷ c.0 ∷ []) middle.0 (elements w right.0)) digit; makes = rw e refl; places = rw e refl }
+of_deep w sides.Left left middle right z k digit (few.Four a b c d) e = record { made = top.deep (elements w a.0) (top.shorter_left (b.0 ∷ c.0 ∷ d.0 ∷ []) middle.0 (elements w right.0)) digit; makes = rw e refl; places = rw e refl }
+of_deep w sides.Right left middle right z k digit (few.One a) e = record { made = top.deep digit (top.without_right middle.0 (elements w left.0)) (elements w a.0); makes = rw e refl; places = rw e refl }
+of_deep w sides.Right left middle right z k digit (few.Two a b) e = record { made = top.deep digit (top.shorter_right (elements w left.0) middle.0 (a.0 ∷ [])) (elements w b.0); makes = rw e refl; places = rw e refl }
+of_deep w sides.Right left middle right z k digit (few.Three a b c) e = record { made = top.deep digit (top.shorter_right (elements w left.0) middle.0 (a.0 ∷ b.0 ∷ [])) (elements w c.0); makes = rw e refl; places = rw e refl }
+of_deep w sides.Right left middle right z k digit (few.Four a b c d) e = record { made = top.deep digit (top.shorter_right (elements w left.0) middle.0 (a.0 ∷ b.0 ∷ c.0 ∷ [])) (elements w d.0); makes = rw e refl; places = rw e refl }
+
+pub drawn_up : {w : World} → IsLawful w → (side : Side) (q : ℕ) (r : Rec) → recs w q ≡ Some r → (shown : Made) → top.top_of_record w r ≡ Some shown → (digit : List ℕ) → IsDrawnUp w side r digit shown
+drawn_up {w} law side q TEmpty here shown shows digit = let same : top.empty ≡ shown = one_value _ _ shows in rw (← same) (by side)
+  where
+    by : (side : Side) → IsDrawnUp w side TEmpty digit top.empty
+    by sides.Left = record { made = of_digit digit; makes = refl; places = refl }
+    by sides.Right = record { made = of_digit digit; makes = refl; places = refl }
+drawn_up {w} law side q (Single x z k) here shown shows digit = let same : top.one x.0 ≡ shown = one_value _ _ shows in rw (← same) (by side)
+  where
+    by : (side : Side) → IsDrawnUp w side (Single x z k) digit (top.one x.0)
+    by sides.Left = record { made = top.deep (elements w x.0) (top.tree None) digit; makes = refl; places = refl }
+    by sides.Right = record { made = top.deep digit (top.tree None) (elements w x.0); makes = refl; places = refl }
+drawn_up {w} law side q (Deep left middle right z k) here shown shows digit =
+    let same : top.deep (elements w left.0) (top.tree (Some middle.0)) (elements w right.0) ≡ shown = one_value _ _ shows in
+    let ends = both_ends side left right in
+    let f = few_there law ends.0.0 (deep_digits law q left middle right z k here side ends.0 ends.1 refl).0 in
+    rw (← same) (of_deep w side left middle right z k digit f.0 (ap (λ (x : List ℕ × List ℕ). x.0) (ends_shown w side left right ends.0 ends.1 refl) ∙ digit_elements w ends.0.0 f.0 f.1))
+drawn_up law side q _ here shown shows digit = absurd (let z : None ≡ Some shown = shows in cc)
 
 -- ---- what a pop needs
 

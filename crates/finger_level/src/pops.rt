@@ -12,7 +12,7 @@ ghost use Rattle.finger_level.specs.Pops.{both_ends, what_is_left, level_by, is_
 
 use crate::few::{Few, Group};
 use crate::level::{Digit, Level, Middle, Side};
-use crate::reads::{read_digit, read_node};
+use crate::reads::{digit_length, read_digit, read_node};
 use heap_store::{Heap, Prep, value_place};
 use lazy_rec::{Rec, Ref};
 
@@ -220,21 +220,19 @@ fn has_one<H: Heap>(h: &mut H, p: Ref) -> bool
     ensures quiet { Quiet (H.view h.old) (H.view h.new) }
     ensures one { result ≡ is_single (elements (H.view h.new).seen p.0) }
 {
-    match h.read(p) {
-        Rec::Digit { count, .. } => count == 1,
-        _ => unreachable!(),
-    }
+    digit_length(h, p) == 1
 }
 
-/// So many places where a digit has one element, or else so many.
-fn either(one: bool, few: u32, more: u32) -> u32
-    ensures { result ≡ cond one few more }
+/// So many places where a test holds, or else so many.
+pub(crate) fn either(holds: bool, places: u32, other: u32) -> u32
+    ensures { result ≡ cond holds places other }
 {
-    if one { few } else { more }
+    if holds { places } else { other }
 }
 
-/// How many places the level takes that is drawn from the middle's value at `q` and the digit at `p`.
-fn drawn_count<H: Heap>(h: &mut H, side: Side, q: Ref, p: Ref) -> u32
+/// How many places the level takes that is drawn from the middle's value at `q` and the digit at `p`. It reads one digit: that of
+/// the side, or of an empty middle the one at `p`.
+pub fn drawn_places<H: Heap>(h: &mut H, side: Side, q: Ref, p: Ref) -> u32
     requires value { holds (recs (H.view h.old).seen) q.0 is_tree_value ≡ true }
     requires digit { holds (recs (H.view h.old).seen) p.0 is_digit_rec ≡ true }
     ensures quiet { Quiet (H.view h.old) (H.view h.new) }
@@ -279,7 +277,7 @@ pub fn popped_need<H: Heap>(h: &mut H, side: Side, root: Ref) -> Prep
             }
             match value_place(h, middle) {
                 Some(q) => {
-                    let nodes = drawn_count(h, side, q, far);
+                    let nodes = drawn_places(h, side, q, far);
                     Prep::Ready { nodes }
                 }
                 None => Prep::Need(middle),

@@ -1,5 +1,5 @@
 //! Elements pushed onto a level, nothing of which is published yet.
-ghost use Rattle.std.specs.Prelude.{◌≡◌, ◌≤◌, ◌+◌, ℕ, suc, Bool, true, Some, ◌∷◌, []};
+ghost use Rattle.std.specs.Prelude.{◌≡◌, ◌≤◌, ◌+◌, ℕ, suc, Bool, true, Some, List, length};
 ghost use Rattle.heap_store.specs.World.{World, recs, holds};
 ghost use Rattle.heap_store.specs.Completion.{Made, push_one_left, push_one_right, node_left, node_right};
 ghost use Rattle.heap_store.specs.View.{Quiet};
@@ -7,13 +7,13 @@ ghost use Rattle.finger_level.specs.Few.{group_list};
 ghost use Rattle.finger_level.specs.Level.{made_of, middle_of, middle_takes_left, middle_takes_right, middle_room_left, middle_room_right, room_left, room_right, places_of, middle_places, kept_left, kept_right, kept_of, made_places};
 ghost use Rattle.finger_level.specs.Reads.{AreThere, AreUnder, IsThereMiddle, IsUnderMiddle, is_tree_value};
 ghost use Rattle.finger_level.specs.Keyed.{HasKeys, AreKeyed, KeyedMiddle, KeyedLevel};
-ghost use Rattle.finger_level.specs.Pushes.{push_all, IsPushed};
+ghost use Rattle.finger_level.specs.Pushes.{push_all, pushed_list, IsPushed};
 ghost use Rattle.finger_level.specs.Pops.{shown_at};
 
 use crate::few::{Few, Group};
 use crate::level::{Digit, Level, Middle, Nodes, Pushed, Side, few_of};
-use crate::pops::both_ends;
-use crate::reads::{read_digit, read_level};
+use crate::pops::{both_ends, either};
+use crate::reads::{digit_length, read_level};
 use heap_store::Heap;
 use lazy_rec::{Rec, Ref};
 
@@ -167,23 +167,35 @@ pub fn pushed_level<H: Heap>(h: &mut H, side: Side, es: Pushed, q: Ref) -> Level
     }
 }
 
-/// How many places the level takes that the value at a place shows with one element pushed onto an end. They don't depend on the
-/// element, and of the digits only the one at that end is read: a full one overflows into a node and a suspended push.
-pub fn pushed_places<H: Heap>(h: &mut H, side: Side, q: Ref) -> u32
-    requires { holds (recs (H.view h.old).seen) q.0 is_tree_value ≡ true }
+/// How many elements are pushed.
+pub fn pushed_count(es: Pushed) -> u32
+    ensures exact { result ≡ length (pushed_list es) }
+    ensures some { 1 ≤ result }
+    ensures most { result ≤ 2 }
+{
+    match es {
+        Pushed::One(_) => 1,
+        Pushed::Two(_, _) => 2,
+    }
+}
+
+/// How many places the level takes that the value at a place shows with one or two elements pushed onto an end. They don't depend
+/// on the elements, and of the digits only the one at that end is read: where it overflows, a node and a suspended push are made.
+pub fn pushed_places<H: Heap>(h: &mut H, side: Side, count: u32, q: Ref) -> u32
+    requires value { holds (recs (H.view h.old).seen) q.0 is_tree_value ≡ true }
+    requires some { 1 ≤ count }
+    requires few { count ≤ 2 }
     ensures quiet { Quiet (H.view h.old) (H.view h.new) }
-    ensures places { (shown : Made) → shown_at (H.view h.new).seen q.0 ≡ Some shown → result ≡ made_places (kept_of shown) (push_all side (0 ∷ []) shown) }
+    ensures places { (es : List ℕ) → length es ≡ count → (shown : Made) → shown_at (H.view h.new).seen q.0 ≡ Some shown → result ≡ made_places (kept_of shown) (push_all side es shown) }
     ensures most { result ≤ 4 }
 {
     match h.read(q) {
-        Rec::TEmpty => 1,
+        Rec::TEmpty => either(count == 1, 1, 3),
         Rec::Single { .. } => 3,
         Rec::Deep { left, right, .. } => {
             let (near, _) = both_ends(side, left, right);
-            match read_digit(h, near) {
-                Few::Four(_, _, _, _) => 4,
-                _ => 2,
-            }
+            let before = digit_length(h, near);
+            either(before + count > 4, 4, 2)
         }
         _ => unreachable!(),
     }

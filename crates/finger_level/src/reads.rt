@@ -1,8 +1,9 @@
 //! What is read of a tree.
-ghost use Rattle.std.specs.Prelude.{◌≡◌, true};
+ghost use Rattle.std.specs.Prelude.{◌≡◌, ◌≤◌, true, length};
 ghost use Rattle.std.specs.List.{AllByRecursion};
 ghost use Rattle.lazy_rec.specs.Meaning.{means};
 ghost use Rattle.heap_store.specs.World.{recs, holds};
+ghost use Rattle.heap_store.specs.Completion.{elements};
 ghost use Rattle.heap_store.specs.View.{Quiet};
 ghost use Rattle.finger_level.specs.Few.{few_list, group_list, digit_record, few_at, group_at};
 ghost use Rattle.finger_level.specs.Reads.{is_element, is_node_rec, is_digit_rec, is_tree_rec, is_tree_value, IsDigitAt, IsNodeAt, LevelRead, IsWeight, IsWeighedAt};
@@ -40,6 +41,19 @@ pub fn read_weighed<H: Heap>(h: &mut H, p: Ref) -> WeighedFew
             few: few_elements(count, e1, e2, e3, e4),
             weight: Weight { size, key },
         },
+        _ => unreachable!(),
+    }
+}
+
+/// How many elements a digit has.
+pub(crate) fn digit_length<H: Heap>(h: &mut H, p: Ref) -> u32
+    requires { holds (recs (H.view h.old).seen) p.0 is_digit_rec ≡ true }
+    ensures quiet { Quiet (H.view h.old) (H.view h.new) }
+    ensures exact { result ≡ length (elements (H.view h.new).seen p.0) }
+    ensures most { result ≤ 4 }
+{
+    match h.read(p) {
+        Rec::Digit { count, .. } => u32::from(count),
         _ => unreachable!(),
     }
 }

@@ -23,7 +23,7 @@ use Rattle.finger_level.specs.declared.level.Side.TheVariants as sides
 use Rattle.finger_level.specs.declared.level.Pushed.{Pushed}
 use Rattle.finger_level.specs.declared.level.Pushed.TheVariants as pushes
 use Rattle.finger_level.specs.Keyed.{HasKeys, AreKeyed, key_in}
-use Rattle.finger_level.specs.Level.{elements_in, trees_in, items_of_made, made_of, kept_of}
+use Rattle.finger_level.specs.Level.{elements_in, trees_in, items_of_made, made_of, made_places, kept_of}
 use Rattle.finger_level.specs.Reads.{is_tree_rec, cached_size}
 use Rattle.finger_level.specs.Puts.{IsElement, IsTree, IsLevel, push_record}
 use Rattle.finger_level.specs.Pushes.{IsPushed, pushed_list, push_all, beside}
@@ -35,11 +35,12 @@ use Rattle.finger_level.proofs.Found.{IsValueAt}
 use Rattle.finger_level.proofs.Keying.{push_keys_of, value_keyed}
 use Rattle.finger_level.proofs.LevelPushes.{open_left, open_right}
 use Rattle.finger_level.proofs.Levels.{under_level}
+use Rattle.finger_level.proofs.PopNeeds.{level_shown}
 use Rattle.finger_level.proofs.Suspending.{PushLow, push_size}
 use Rattle.finger_level.proofs.Pushing.{push_level, push_means, push_tree}
 use Rattle.finger_level.proofs.Tops.{top_well, rest_open, push_all_well}
 use Rattle.finger_tree.specs.declared.push.Push.{Push}
-use Rattle.finger_tree.specs.Work.{kept_by, shown_by, suspended}
+use Rattle.finger_tree.specs.Work.{kept_by, shown_by, suspended, LevelTold}
 use Rattle.finger_tree.proofs.Works.{Shape, Waited, Makes, KeysMade, shown_at, value_there}
 
 -- ---- a suspended push in the world
@@ -185,6 +186,22 @@ push_keyed law b s q p made_level e k m place keys h =
     let j = ltb 0 p.weight.key.0 in
     let x = push_keys law s q p e k j h in
     keys x.0 x.1 (m.key j h ∙ ap (key_in j) (sym m.items))
+
+-- what its readiness tells: the places of the level that its tree's value shows, with its elements pushed onto it
+pub push_told : {w : World} → IsLawful w → (s q : ℕ) (p : Push) (nodes : ℕ) → recs w s ≡ Some (suspended p) → IsValueAt w p.tree.0 q → ((shown : Made) → option_and_then (top_of_record w) (recs w q) ≡ Some shown → nodes ≡ made_places (kept_of shown) (push_all p.side (pushed_list p.es) shown)) → LevelTold w s nodes
+push_told {w} law s q p nodes e k count =
+    let t = value_there p.tree.0 q k in
+    let here = level_shown law q t.0 t.1 t.2 in
+    let shown = shown_at p.tree.0 q here.0 k here.1 in
+    record {
+      rec = suspended p;
+      here = e;
+      shown = here.0;
+      made = push_all p.side (pushed_list p.es) here.0;
+      top = shown_push w p here.0 shown;
+      makes = push_makes w p here.0 shown;
+      count = rw (kept p here.0) (count here.0 here.1);
+    }
 
 pub push_works : {w : World} → IsLawful w → (s q : ℕ) (p : Push) (made_level : Level) → recs w s ≡ Some (suspended p) → IsValueAt w p.tree.0 q → IsPushed w p.side p.es q made_level → Makes w s (suspended p) q p.origin p.weight made_level
 push_works {w} law s q p made_level e k m =

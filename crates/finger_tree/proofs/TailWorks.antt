@@ -1,8 +1,10 @@
 -- Suspended tails: what their records say, and the level that they make.
 use Rattle.std.proofs.Common.{◌≡◌, ℕ, suc, ◌+◌, ◌<◌, ◌≤◌, ltb, refl, sym, ap, ◌∙◌, arith, Bool, true, Some, None, [], ◌∷◌, length}
+use Rattle.std.specs.Prelude.{option_and_then}
 use Rattle.std.specs.List.{AllByRecursion, list_all}
 use Rattle.std.proofs.lemmas.Bool.{and_parts, eqb-true, ltb-true}
 use Rattle.lazy_rec.specs.declared.places.Ref.{Ref}
+use Rattle.lazy_rec.specs.declared.records.Rec.{Rec}
 use Rattle.lazy_rec.specs.declared.records.Sort.TheVariants as sorts
 use Rattle.lazy_rec.specs.Named.{NamedPlace, named, same_sort}
 use Rattle.lazy_rec.specs.Meaning.{means}
@@ -12,7 +14,7 @@ use Rattle.heap_store.specs.View.{View, Quiet}
 use Rattle.heap_store.specs.Jobs.{IsBuildable, IsBuilt}
 use Rattle.heap_store.proofs.Steps.{Quiet_trans}
 use Rattle.heap_store.specs.World.{World, recs, holds}
-use Rattle.heap_store.specs.Completion.{Made, elements, made_tree, top_at}
+use Rattle.heap_store.specs.Completion.{Made, elements, made_tree, top_of_record, top_at}
 use Rattle.heap_store.specs.Lawful.{IsLawful, level_of, is_of_level, level_from, level, height, has_low_names, is_finger}
 use Rattle.heap_store.proofs.NameLaws.{IsNamedWell}
 use Rattle.heap_store.proofs.GrowthLaws.{at_true}
@@ -29,16 +31,17 @@ use Rattle.finger_level.specs.Keyed.{HasKeys, key_in}
 use Rattle.finger_level.specs.Reads.{is_digit_rec, is_tree_rec, cached_size}
 use Rattle.finger_level.specs.Pushes.{beside}
 use Rattle.finger_level.specs.Puts.{IsTree, tail_record}
-use Rattle.finger_level.specs.Pops.{from_middle, AreParts, IsUpper, IsDrawn}
+use Rattle.finger_level.specs.Pops.{from_middle, drawn_places, AreParts, IsUpper, IsDrawn}
 use Rattle.finger_level.proofs.Families.{tree_size}
 use Rattle.finger_level.proofs.Found.{IsValueAt}
 use Rattle.finger_level.proofs.Keying.{keyed_of, value_keyed}
+use Rattle.finger_level.proofs.PopNeeds.{level_shown, drawn_up}
 use Rattle.finger_level.proofs.Pushing.{both_length}
 use Rattle.finger_level.proofs.Tails.{tail_level, tail_means, tail_size, tail_tree}
 use Rattle.finger_tree.specs.declared.tail.Tail.{Tail}
 use Rattle.finger_level.specs.NearDraws.{DrawnAsk, DrawnPut}
 use Rattle.finger_tree.specs.Work.{kept_by, shown_by, hanging, LevelTold}
-use Rattle.finger_tree.proofs.Works.{Shape, Waited, Makes, build_facts, work_ask, level_keys, work_built, waited_there, value_up_at}
+use Rattle.finger_tree.proofs.Works.{Shape, Waited, Makes, build_facts, work_ask, level_keys, work_built, waited_there, value_there, value_up_at, shown_at}
 
 -- ---- a suspended tail in the world
 
@@ -118,12 +121,28 @@ waited law s t e = let f = tail_facts law s t e in record { sort = f.middle.sort
 pub upper : {w : World} → IsLawful w → (s q : ℕ) (t : Tail) → recs w s ≡ Some (hanging t) → IsValueAt w t.middle.0 q → IsUpper w q
 upper {w} law s q t e k = record { depth = level_from (level (recs w)) (hanging t); value = k.there; of_level = k.of_level _ (tail_facts law s t e).middle.of_level }
 
-tail_makes : {w : World} (t : Tail) (q : ℕ) (made_level : Level) → IsValueAt w t.middle.0 q → IsDrawn w t.side q t.digit.0 made_level → made_tree w (hanging t) ≡ Some (made_of made_level)
-tail_makes {w} t q made_level k m = by t.side m.made
+tail_makes : {w : World} (t : Tail) (q : ℕ) (r : Rec) (made : Made) → IsValueAt w t.middle.0 q → recs w q ≡ Some r → from_middle t.side w r (elements w t.digit.0) ≡ Some made → made_tree w (hanging t) ≡ Some made
+tail_makes {w} t q r made k here m = by t.side m
   where
-    by : (side : Side) → from_middle side w m.rec (elements w t.digit.0) ≡ Some (made_of made_level) → made_tree w (tail_record side t.middle t.digit t.origin t.off t.weight) ≡ Some (made_of made_level)
-    by sides.Left h = rw (k.value, m.here) h
-    by sides.Right h = rw (k.value, m.here) h
+    by : (side : Side) → from_middle side w r (elements w t.digit.0) ≡ Some made → made_tree w (tail_record side t.middle t.digit t.origin t.off t.weight) ≡ Some made
+    by sides.Left h = rw (k.value, here) h
+    by sides.Right h = rw (k.value, here) h
+
+-- what its readiness tells: the places of the level that is drawn from its middle's value
+pub tail_told : {w : World} → IsLawful w → (s q : ℕ) (t : Tail) (nodes : ℕ) → recs w s ≡ Some (hanging t) → IsValueAt w t.middle.0 q → ((shown : Made) → option_and_then (top_of_record w) (recs w q) ≡ Some shown → nodes ≡ drawn_places t.side (elements w t.digit.0) shown) → LevelTold w s nodes
+tail_told {w} law s q t nodes e k count =
+    let v = value_there t.middle.0 q k in
+    let here = level_shown law q v.0 v.1 v.2 in
+    let up = drawn_up law t.side q v.0 v.1 here.0 (rw v.1 at here.1) (elements w t.digit.0) in
+    record {
+      rec = hanging t;
+      here = e;
+      shown = here.0;
+      made = up.made;
+      top = shown_tail w t here.0 (shown_at t.middle.0 q here.0 k here.1);
+      makes = tail_makes t q v.0 up.made k v.1 up.makes;
+      count = rw (kept t here.0) (count here.0 here.1 ∙ up.places);
+    }
 
 record TailKeys (w : World) (keyed : Bool) (s : ℕ) (t : Tail) : Type 0 where
   key_is : t.weight.key.0 ≡ key_in keyed (means (recs w) s)
@@ -151,7 +170,7 @@ tail_works {w} law s q t made_level e k m =
       here = e;
       shown = m.shown;
       top = shown_tail w t m.shown (rw (k.value, m.here) m.top);
-      made = tail_makes t q made_level k m;
+      made = tail_makes t q m.rec (made_of made_level) k m.here m.made;
       places = rw (kept t m.shown) m.places;
       most = omega (arith, m.most);
       there = m.there;

@@ -136,13 +136,17 @@ pub record Makes (w : World) (s : ℕ) (r : Rec) (q : ℕ) (o : Ref) (weight : W
 
 -- ---- what a prepare answers
 
-pub work_ready : {w : World} {r : Rec} {waited : List ℕ} {off key : ℕ} {o : Ref} → Shape r waited o off key → (s q : ℕ) (weight : Weight) (made_level : Level) (nodes : ℕ) → list_all (is_value w) waited ≡ true → Makes w s r q o weight made_level → nodes ≡ places_of made_level → IsReady LevelTold w s nodes
-work_ready {w} {r} {waited} shape s q weight made_level nodes known m n = record {
+-- what it tells, from a level that it makes
+pub level_told : {w : World} (s q : ℕ) (r : Rec) (o : Ref) (weight : Weight) (made_level : Level) (nodes : ℕ) → Makes w s r q o weight made_level → nodes ≡ places_of made_level → LevelTold w s nodes
+level_told s q r o weight made_level nodes m n = record { rec = r; here = m.here; shown = m.shown; made = made_of made_level; top = m.top; makes = m.made; count = n ∙ m.places }
+
+pub work_ready : {w : World} {r : Rec} {waited : List ℕ} {off key : ℕ} {o : Ref} → Shape r waited o off key → (s nodes : ℕ) → recs w s ≡ Some r → list_all (is_value w) waited ≡ true → LevelTold w s nodes → nodes ≤ 8 → IsReady LevelTold w s nodes
+work_ready {w} {r} {waited} shape s nodes here known told few = record {
   rec = r;
-  here = m.here;
+  here = here;
   needs = rw (shape.needs w) known;
-  told = record { rec = r; here = m.here; shown = m.shown; made = made_of made_level; top = m.top; makes = m.made; count = n ∙ m.places };
-  most = omega (arith, shape.most, n, m.most);
+  told = told;
+  most = omega (arith, shape.most, few);
   exact = λ f. absurd (true≢false (sym f ∙ shape.not_fixed));
 }
 

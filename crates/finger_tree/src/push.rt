@@ -6,7 +6,7 @@ ghost use Rattle.heap_store.specs.View.{Quiet};
 ghost use Rattle.heap_store.specs.Jobs.{cursor_fits, Prepared, IsBuildable, IsBuilt};
 ghost use Rattle.finger_tree.specs.Work.{is_push, is_finger_work, pushed_at, suspended, LevelTold};
 
-use finger_level::{Family, Pushed, Side, Weight, places, pushed_level, put_pushes};
+use finger_level::{Family, Pushed, Side, Weight, pushed_count, pushed_places, put_pushes};
 use heap_store::{Built, Cursor, Heap, Prep, Run, value_place};
 use lazy_rec::{Rec, Ref};
 
@@ -86,12 +86,9 @@ pub fn prepare<H: Heap>(rec: &Rec, h: &mut H, s: Ref, cursor: &mut Cursor) -> Pr
 {
     let push = push_of(rec);
     match value_place(h, push.tree) {
-        Some(q) => {
-            let level = pushed_level(h, push.side, push.es, q);
-            Prep::Ready {
-                nodes: places(level),
-            }
-        }
+        Some(q) => Prep::Ready {
+            nodes: pushed_places(h, push.side, pushed_count(push.es), q),
+        },
         None => Prep::Need(push.tree),
     }
 }

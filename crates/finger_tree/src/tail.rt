@@ -5,7 +5,7 @@ ghost use Rattle.heap_store.specs.View.{Quiet};
 ghost use Rattle.heap_store.specs.Jobs.{cursor_fits, Prepared, IsBuildable, IsBuilt};
 ghost use Rattle.finger_tree.specs.Work.{is_tail, is_finger_work, hanging, LevelTold};
 
-use finger_level::{Family, Side, Weight, drawn_level, places, put_drawn};
+use finger_level::{Family, Side, Weight, drawn_places, put_drawn};
 use heap_store::{Built, Cursor, Heap, Prep, Run, value_place};
 use lazy_rec::{Rec, Ref};
 
@@ -70,12 +70,9 @@ pub fn prepare<H: Heap>(rec: &Rec, h: &mut H, s: Ref, cursor: &mut Cursor) -> Pr
 {
     let tail = tail_of(rec);
     match value_place(h, tail.middle) {
-        Some(q) => {
-            let level = drawn_level(h, tail.side, q, tail.digit);
-            Prep::Ready {
-                nodes: places(level),
-            }
-        }
+        Some(q) => Prep::Ready {
+            nodes: drawn_places(h, tail.side, q, tail.digit),
+        },
         None => Prep::Need(tail.middle),
     }
 }

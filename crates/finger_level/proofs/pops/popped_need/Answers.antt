@@ -39,12 +39,12 @@ value_place-requires g c =
     let t = at_true is_tree_rec (w c.in-Deep.middle.0) (deep_middle (g.met.H.Heap.lawful c.has_one.new.h).world c.args.root.0 c.in-Deep.left c.in-Deep.middle c.in-Deep.right c.in-Deep.size c.in-Deep.key (root_here g (goal.at.value_place-requires g c).After-has_one)) in
     is_there w c.in-Deep.middle.0 (t.0, t.1)
 
-pub drawn_count-nodes-requires-clause-value : goal.drawn_count-nodes-requires-clause-value
-drawn_count-nodes-requires-clause-value g c = (found g (goal.at.drawn_count-nodes-requires-clause-value g c).In-Some).there
+pub drawn_places-nodes-requires-clause-value : goal.drawn_places-nodes-requires-clause-value
+drawn_places-nodes-requires-clause-value g c = (found g (goal.at.drawn_places-nodes-requires-clause-value g c).In-Some).there
 
-pub drawn_count-nodes-requires-clause-digit : goal.drawn_count-nodes-requires-clause-digit
-drawn_count-nodes-requires-clause-digit g c =
-    let e = c.value_place.ensures.quiet.grows.records _ _ (root_here g (goal.at.drawn_count-nodes-requires-clause-digit g c).After-has_one) in
+pub drawn_places-nodes-requires-clause-digit : goal.drawn_places-nodes-requires-clause-digit
+drawn_places-nodes-requires-clause-digit g c =
+    let e = c.value_place.ensures.quiet.grows.records _ _ (root_here g (goal.at.drawn_places-nodes-requires-clause-digit g c).After-has_one) in
     (deep_digits (g.met.H.Heap.lawful c.value_place.new.h).world c.args.root.0 c.in-Deep.left c.in-Deep.middle c.in-Deep.right c.in-Deep.size c.in-Deep.key e c.args.side c.both_ends.result.0 c.both_ends.result.1 c.both_ends.ensures).1
 
 pub unreachable-requires : goal.unreachable-requires
@@ -64,19 +64,19 @@ returns-then-not-has_one-clause-answer g c =
     some_ready (g.met.H.Heap.lawful c.has_one.new.h).world c.args.side c.args.root.0 c.in-Deep.left c.in-Deep.middle c.in-Deep.right c.both_ends.result.0 c.both_ends.result.1 c.in-Deep.size c.in-Deep.key (root_here g (goal.at.returns-then-not-has_one-clause-answer g c).After-has_one) c.both_ends.ensures c.has_one.result c.has_one.ensures.one c.if-not-has_one.true
 
 pub returns-in-Some-clause-quiet : goal.returns-in-Some-clause-quiet
-returns-in-Some-clause-quiet g c = Quiet_trans (Quiet_trans c.read.ensures.quiet c.has_one.ensures.quiet) (Quiet_trans c.value_place.ensures.quiet c.drawn_count-nodes.ensures.quiet)
+returns-in-Some-clause-quiet g c = Quiet_trans (Quiet_trans c.read.ensures.quiet c.has_one.ensures.quiet) (Quiet_trans c.value_place.ensures.quiet c.drawn_places-nodes.ensures.quiet)
 
 pub returns-in-Some-clause-answer : goal.returns-in-Some-clause-answer
 returns-in-Some-clause-answer g c =
     let d = (goal.at.returns-in-Some-clause-answer g c).After-has_one in
-    let law = (g.met.H.Heap.lawful c.drawn_count-nodes.new.h).world in
+    let law = (g.met.H.Heap.lawful c.drawn_places-nodes.new.h).world in
     let law1 = (g.met.H.Heap.lawful c.value_place.new.h).world in
-    let last = c.drawn_count-nodes.ensures.quiet.grows in
-    let up = (Quiet_trans c.value_place.ensures.quiet c.drawn_count-nodes.ensures.quiet).grows in
+    let last = c.drawn_places-nodes.ensures.quiet.grows in
+    let up = (Quiet_trans c.value_place.ensures.quiet c.drawn_places-nodes.ensures.quiet).grows in
     let here = up.records _ _ (root_here g d) in
     let at = found_up law1 last c.in-Deep.middle.0 c.in-Some.q.0 c.in-Some.ensures.place in
     let value = value_tree law c.in-Deep.middle.0 c.in-Some.q.0 (deep_middle law c.args.root.0 c.in-Deep.left c.in-Deep.middle c.in-Deep.right c.in-Deep.size c.in-Deep.key here) at in
-    drawn_ready law c.args.side c.args.root.0 c.in-Deep.left c.in-Deep.middle c.in-Deep.right c.both_ends.result.0 c.both_ends.result.1 c.in-Deep.size c.in-Deep.key here c.both_ends.ensures c.has_one.result (one_here g d up) c.if-not-has_one.false c.in-Some.q.0 at value c.drawn_count-nodes.result c.drawn_count-nodes.ensures.count c.drawn_count-nodes.ensures.most
+    drawn_ready law c.args.side c.args.root.0 c.in-Deep.left c.in-Deep.middle c.in-Deep.right c.both_ends.result.0 c.both_ends.result.1 c.in-Deep.size c.in-Deep.key here c.both_ends.ensures c.has_one.result (one_here g d up) c.if-not-has_one.false c.in-Some.q.0 at value c.drawn_places-nodes.result c.drawn_places-nodes.ensures.count c.drawn_places-nodes.ensures.most
 
 pub returns-in-None-clause-quiet : goal.returns-in-None-clause-quiet
 returns-in-None-clause-quiet g c = Quiet_trans (Quiet_trans c.read.ensures.quiet c.has_one.ensures.quiet) c.value_place.ensures.quiet

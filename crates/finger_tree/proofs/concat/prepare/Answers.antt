@@ -1,4 +1,4 @@
-use Rattle.std.proofs.Common.{◌≡◌, ◌∙◌, ap, eqb, refl, max, Some, true, false}
+use Rattle.std.proofs.Common.{◌≡◌, ◌∙◌, ap, eqb, refl, arith, max, Some, true, false}
 use Rattle.std.proofs.lemmas.Bool.{and_from, or_left, or_right, eq-eqb}
 use Rattle.heap_store.specs.World.{recs, is_value}
 use Rattle.heap_store.specs.View.{Quiet}
@@ -8,7 +8,7 @@ use Rattle.heap_store.proofs.ValueLaws.{place_waits}
 use Rattle.heap_store.proofs.ReadLaws.{is_there}
 use Rattle.finger_level.proofs.Found.{IsValueAt, value_tree}
 use Rattle.finger_tree.specs.Work.{joining}
-use Rattle.finger_tree.proofs.Works.{Makes, work_ready, work_need, cursor_stays, value_known, waited_there, value_up_at}
+use Rattle.finger_tree.proofs.Works.{Makes, level_told, work_ready, work_need, cursor_stays, value_known, waited_there, value_up_at}
 use Rattle.finger_tree.proofs.ConcatWorks.{shape, waited, join_works, join_facts}
 use Rattle.finger_tree.proofs.concat.prepare.Goals as goal
 use Rattle.finger_tree.proofs.concat.prepare.Goals.{After-join_of-join, After-concat_level-level}
@@ -105,4 +105,6 @@ returns-clause-answer g c =
     let d = (goal.at.returns-clause-answer g c).After-concat_level-level in
     let w = (g.H.Heap.view c.concat_level-level.new.h).seen in
     let known = and_from (is_value w c.join_of-join.result.left.0) _ (value_known w c.join_of-join.result.left.0 c.in-Some.p.0 (left_at g d)) (and_from (is_value w c.join_of-join.result.right.0) true (value_known w c.join_of-join.result.right.0 c.in-Some-value_place.q.0 (right_at g d)) refl) in
-    work_ready (shape c.join_of-join.result) c.args.s.0 (max c.in-Some.p.0 c.in-Some-value_place.q.0) c.join_of-join.result.weight c.concat_level-level.result c.places.result known (works g d) c.places.ensures.exact
+    let m = works g d in
+    let told = level_told c.args.s.0 (max c.in-Some.p.0 c.in-Some-value_place.q.0) (joining c.join_of-join.result) c.join_of-join.result.origin c.join_of-join.result.weight c.concat_level-level.result c.places.result m c.places.ensures.exact in
+    work_ready (shape c.join_of-join.result) c.args.s.0 c.places.result m.here known told (omega (arith, c.places.ensures.exact, m.most))

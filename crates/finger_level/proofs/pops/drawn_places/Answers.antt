@@ -3,7 +3,7 @@ use Rattle.heap_store.specs.World.{recs}
 use Rattle.heap_store.proofs.Steps.{Quiet_trans}
 use Rattle.finger_level.proofs.Draws.{deep_digits, no_other, tree_is}
 use Rattle.finger_level.proofs.PopNeeds.{digit_up, count_of_empty, count_of_single, count_of_deep}
-use Rattle.finger_level.proofs.pops.drawn_count.Goals as goal
+use Rattle.finger_level.proofs.pops.drawn_places.Goals as goal
 
 pub has_one-one-requires : goal.has_one-one-requires
 has_one-one-requires g c = digit_up c.read.ensures.quiet.grows c.args.p.0 c.requires.digit
