@@ -1,5 +1,5 @@
 -- The put of what a pop leaves of a tree.
-use Rattle.std.proofs.Common.{◌≡◌, ℕ, suc, ◌+◌, ◌-◌, ◌≤◌, refl, sym, ap, ◌∙◌, arith, Bool, true, Some, None, [], ◌∷◌, length}
+use Rattle.std.proofs.Common.{◌≡◌, ℕ, suc, ◌+◌, ◌-◌, ◌≤◌, refl, sym, ap, ◌∙◌, arith, Bool, true, Option, Some, None, [], ◌∷◌, length}
 use Rattle.std.specs.Prelude.{flat_map}
 use Rattle.std.specs.List.{AllByRecursion}
 use Rattle.std.proofs.lemmas.List.{append-nil}
@@ -76,9 +76,13 @@ pub record Lessened (w : World) (rest : Few) (size : ℕ) (whole : Weight) (digi
   pub small : length (flat_map (means (recs w)) (few_list rest)) ≤ 2147483647
   pub counts : digit ≡ size - whole.size + length (flat_map (means (recs w)) (few_list rest))
 
+-- the other digit
+pub other_few : {w : World} → IsLawful w → (side : Side) (root : ℕ) (left middle right near far e : Ref) (rest : Option Few) (n : Few) → Taking w side root left middle right near far e rest n → (g : Few) × IsDigitAt w far.0 g
+other_few law side root left middle right near far e rest n k = few_there law far.0 (deep_digits law root left middle right k.size k.key k.here side near far k.ends).1
+
 module _ {w : World} (law : IsLawful w) (side : Side) (root : ℕ) (left middle right near far e : Ref) (rest n : Few) (k : Taking w side root left middle right near far e (Some rest) n) where
   pub far_few : (g : Few) × IsDigitAt w far.0 g
-  far_few = few_there law far.0 (deep_digits law root left middle right k.size k.key k.here side near far k.ends).1
+  far_few = other_few law side root left middle right near far e (Some rest) n k
 
   pub left_rest : (g : Few) → IsDigitAt w far.0 g → IsRest w side root e.0 (level_by side rest (middles.Tree (Some middle)) (digits.Old far g))
   left_rest g at = rest_of_some law side root left middle right near far e rest n g k at

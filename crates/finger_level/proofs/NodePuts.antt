@@ -174,6 +174,10 @@ pub heights_up : {a b : World} → IsLawful a → Grows a b → (d limit m : ℕ
 heights_up law g d limit m [] k h = tt
 heights_up {a} {b} law g d limit m (e ∷ es) k h = (rw (height_kept (recs a) (recs b) (lawful_names law) g.records e (element_there d limit e k.0)) at h.0, heights_up law g d limit m es k.1 h.1)
 
+pub lows_up : {a b : World} → IsLawful a → Grows a b → (d limit o : ℕ) (es : List ℕ) → AllByRecursion (IsElement a d limit) es → AllByRecursion (λ e. height (recs a) e < o) es → AllByRecursion (λ e. height (recs b) e < o) es
+lows_up law g d limit o [] k h = tt
+lows_up {a} {b} law g d limit o (e ∷ es) k h = (rw (height_kept (recs a) (recs b) (lawful_names law) g.records e (element_there d limit e k.0)) at h.0, lows_up law g d limit o es k.1 h.1)
+
 pub pushed_well : {a b : World} → IsLawful a → IsLawful b → Grows a b → (d limit more : ℕ) → limit ≤ more → (ns : Nodes) (es : Pushed) → AllByRecursion (IsElement a d limit) (all_of (nodes_list ns)) → AllByRecursion (λ e. e < more) (pushed_list es) → AreNodesAt b ns es → PushedWell a b d more ns es
 pushed_well {a} {b} law law2 g d limit more high (nodes.One x) (pushes.One e) k under at =
     let kx = all_left _ (group_list x) [] k in

@@ -11,7 +11,7 @@ use Rattle.lazy_rec.specs.Meaning.{means}
 use Rattle.heap_store.specs.Span.{Span}
 use Rattle.heap_store.specs.World.{World, recs, same_place}
 use Rattle.heap_store.specs.Completion as top
-use Rattle.heap_store.specs.Completion.{is_middle, is_digit}
+use Rattle.heap_store.specs.Completion.{elements, is_middle, is_digit}
 use Rattle.heap_store.specs.Growth.{Grows}
 use Rattle.heap_store.specs.Lawful.{IsLawful, key_of, is_of_level, height}
 use Rattle.heap_store.specs.Hand.{Hand}
@@ -21,7 +21,8 @@ use Rattle.heap_store.proofs.GrowthLaws.{at_true, grows_trans, grows_refl}
 use Rattle.heap_store.proofs.LawfulLaws.{lawful_names}
 use Rattle.heap_store.proofs.MeaningLaws.{means_is, means_kept}
 use Rattle.heap_store.proofs.RecordLaws.{height_kept}
-use Rattle.heap_store.proofs.Steps.{quiet_Filled}
+use Rattle.heap_store.proofs.Steps.{quiet_Filled, Quiet_refl}
+use Rattle.finger_level.specs.declared.few.Few.{Few}
 use Rattle.finger_level.specs.declared.few.Weight.{Weight}
 use Rattle.finger_level.specs.declared.level.Digit.{Digit}
 use Rattle.finger_level.specs.declared.level.Digit.TheVariants as digits
@@ -34,21 +35,22 @@ use Rattle.finger_level.specs.Level.{without, digit_few, digit_list, digit_place
 use Rattle.finger_level.specs.Reads.{is_tree_rec, IsDigitAt}
 use Rattle.finger_level.specs.Keyed.{HasKeys, AreKeyed, KeyedDigit, key_in}
 use Rattle.finger_level.specs.Pushes.{beside}
-use Rattle.finger_level.specs.Puts.{units_shown, IsElement, IsTree, IsMiddle, IsFamily, IsNext, MiddlePut, DigitPut, tail_record, TailAsk}
+use Rattle.finger_level.specs.Puts.{units_shown, IsElement, IsTree, IsMiddle, IsFamily, IsNext, MiddlePut, tail_record, TailAsk}
 use Rattle.finger_level.proofs.Values.{level_is}
-use Rattle.finger_level.proofs.Found.{digit_grows}
-use Rattle.finger_level.proofs.Builds.{digit_means, elements_up, tree_up, items_up}
+use Rattle.finger_level.proofs.Found.{digit_grows, digit_elements}
+use Rattle.finger_level.proofs.Laying.{laid_none}
+use Rattle.finger_level.proofs.Builds.{elements_up, tree_up, items_up}
 use Rattle.finger_level.proofs.NodePuts.{all_left, all_right}
 use Rattle.finger_level.proofs.Suspending.{place_self}
 use Rattle.finger_level.proofs.Pushing.{further}
 use Rattle.finger_level.proofs.Levels.{digit_low, there_up, weaken}
-use Rattle.finger_level.proofs.Tails.{Hung, TailFound, tail_found, tail_height_is, tail_level, tail_means, tail_tree, tail_is_middle}
+use Rattle.finger_level.proofs.Tails.{TailFound, tail_found, tail_height_is, tail_level, tail_means, tail_tree, tail_is_middle, without_items}
 use Rattle.finger_level.specs.Level.{shorter}
 use Rattle.finger_level.specs.Puts.{IsLevel, EndsAsk, EndsPut, ShorterAsk}
 use Rattle.finger_level.proofs.Levels.{DeepParts, deep_parts, split_length}
 use Rattle.finger_level.proofs.Values.{value_height}
 use Rattle.heap_store.specs.Completion.{is_middle_at}
-use Rattle.finger_level.proofs.Keying.{keyed_up, keyed_item, keyed_items, all_keyed_up, digit_keyed_up, keyed_from, key_both}
+use Rattle.finger_level.proofs.Keying.{keyed_up, keyed_item, keyed_items, all_keyed_up, keyed_from, key_both}
 
 -- ---- a suspended tail that was put
 
@@ -64,27 +66,25 @@ tail_next {v} {n} law law2 g d limit side t q part k at s o off family same p we
     let f = tail_found law law2 g d limit limit (omega arith) side t q part k at in
     rw same (middle_at n o.0 (suc off) side t.0 (digit_list part) p _ e (tail_is_middle n o.0 (suc off) side t q part o weight refl f.digit.shown), omega (arith, tail_height_is law2 p side t q o (suc off) weight e))
 
-pub tail_put : {v b d n : View} {run y z : Span} {side : Side} {t q : Ref} {part : Digit} {family : Family} {size : ℕ} {r : Rec} → Hung v d run y.next side t q part size → IsLawfulView b → TailAsk v run side t part family → DigitPut v b run y part q.0 → Quiet b d → Put d n y.next r → z ≡ record y { next = y.next + 1 } → IsLawful n.seen → (o : Ref) (off : ℕ) (w : Weight) → r ≡ tail_record side t q o off w
-    → gain_at d.seen y.next r ≤ units_shown family (length (middle_items (means (recs v.seen)) (without side t.0 (digit_list part)))) → IsNext n.seen family (without side t.0 (digit_list part)) y.next → (p : ℕ) → p ≡ y.next → MiddlePut v n run z family (suc (digit_places part)) (without side t.0 (digit_list part)) p
-tail_put {v} {b} {d} {n} {run} {y} {z} {side} {t} {q} {part} {family} {size} {r} w law1 k dp quiet p e law2 o off weight same spends next place at =
-    let m = further dp.laid quiet p e in
-    let znext : z.next ≡ y.next + 1 = ap (λ (s : Span). s.next) e in
-    let here : recs n.seen y.next ≡ Some (tail_record side t q o off weight) = p.here ∙ ap Some same in
-    let g = grows_trans w.grows p.grows in
-    let shown = digit_grows p.grows q.0 (digit_few part) w.shown in
-    let found : (j : ℕ) → IsMiddle v.seen j run.next (without side t.0 (digit_list part)) → TailFound v.seen n.seen j z.next side t q part = λ j kj. tail_found w.law0 law2 g j run.next z.next (omega (arith, w.high, znext)) side t q part kj shown in
-    let count : digit_places part + 1 ≡ suc (digit_places part) = omega arith in
-    rw at (record {
+pub tail_put : {v n : View} {run z : Span} {side : Side} {t q : Ref} {f : Few} {family : Family} {r : Rec} → IsLawfulView v → TailAsk v run side t (digits.Old q f) family → Put v n run.next r → z ≡ record run { next = run.next + 1 } → IsLawful n.seen → (o : Ref) (off : ℕ) (w : Weight) → r ≡ tail_record side t q o off w
+    → gain_at v.seen run.next r ≤ units_shown family (length (middle_items (means (recs v.seen)) (without side t.0 (few_list f)))) → IsNext n.seen family (without side t.0 (few_list f)) run.next → (p : ℕ) → p ≡ run.next → MiddlePut v n run z family 1 (without side t.0 (elements v.seen q.0)) p
+tail_put {v} {n} {run} {z} {side} {t} {q} {f} {family} {r} law k p e law2 o off weight same spends next place at =
+    let m = further (laid_none k.held) (Quiet_refl v) p e in
+    let znext : z.next ≡ run.next + 1 = ap (λ (s : Span). s.next) e in
+    let here : recs n.seen run.next ≡ Some (tail_record side t q o off weight) = p.here ∙ ap Some same in
+    let shown = digit_grows p.grows q.0 f k.there in
+    let found : (j : ℕ) → IsMiddle v.seen j run.next (without side t.0 (few_list f)) → TailFound v.seen n.seen j z.next side t q (digits.Old q f) = λ j kj. tail_found law.world law2 p.grows j run.next z.next (omega (arith, znext)) side t q (digits.Old q f) kj shown in
+    rw (at, digit_elements v.seen q.0 f k.there) (record {
       filled = m.filled;
       next = omega (arith, m.next);
       end = m.end;
       held = m.held;
-      tree = λ j kj. (let f = found j kj in record {
+      tree = λ j kj. (let d = found j kj in record {
         under = omega (arith, znext);
         sort = rw here (tail_tree side t q o off weight);
-        of_level = level_is law2 y.next _ here (suc j) ∙ (tail_level (is_of_level (recs n.seen)) (suc j) side t q o off weight ∙ and_from (is_of_level (recs n.seen) t.0 (suc (suc j))) (is_of_level (recs n.seen) q.0 (suc j)) f.tree.of_level f.digit.well.of_level);
+        of_level = level_is law2 run.next _ here (suc j) ∙ (tail_level (is_of_level (recs n.seen)) (suc j) side t q o off weight ∙ and_from (is_of_level (recs n.seen) t.0 (suc (suc j))) (is_of_level (recs n.seen) q.0 (suc j)) d.tree.of_level d.digit.well.of_level);
       });
-      items = means_is (recs n.seen) (lawful_names law2) y.next _ here ∙ (tail_means (recs n.seen) (means (recs n.seen)) y.next side t q o off weight ∙ (found k.depth k.middle).items);
+      items = means_is (recs n.seen) (lawful_names law2) run.next _ here ∙ (tail_means (recs n.seen) (means (recs n.seen)) run.next side t q o off weight ∙ (found k.depth k.middle).items);
       made = next;
       credits = omega (arith, m.credits, spends);
     })
@@ -107,20 +107,18 @@ tail_key : (side : Side) (t q o : Ref) (off : ℕ) (w : Weight) → key_of (tail
 tail_key sides.Left t q o off w = refl
 tail_key sides.Right t q o off w = refl
 
-pub tail_keyed : {v b c n : World} → IsLawful v → IsLawful b → IsLawful n → Grows v b → Grows b c → Grows c n → (keyed : Bool) (side : Side) (t q o : Ref) (part : Digit) (off : ℕ) (w : Weight) (p near below : ℕ) → IsDigitAt b q.0 (digit_few part) → recs n p ≡ Some (tail_record side t q o off w)
-    → (KeyedDigit keyed v part → HasKeys keyed b q.0) → (AreKeyed keyed b (digit_list part) → near ≡ key_in keyed (flat_map (means (recs b)) (digit_list part))) → (HasKeys keyed c t.0 → below ≡ key_in keyed (means (recs c) t.0)) → w.key.0 ≡ max near below
-    → HasKeys keyed v t.0 → KeyedDigit keyed v part → HasKeys keyed n p
-tail_keyed {v} {b} {c} {n} law law1 law2 g h j keyed side t q o part off w p near below at e kq ka kb key ht hd =
-    let tree_b = keyed_up law g keyed t.0 ht in
-    let tree_n = keyed_up law1 (grows_trans h j) keyed t.0 tree_b in
-    let digit_n = keyed_up law1 (grows_trans h j) keyed q.0 (kq hd) in
-    let items = keyed_item law1 (grows_trans h j) keyed q.0 (kq hd) ∙ digit_means law1 q.0 (digit_few part) at in
-    let x = ka (part_keyed b keyed part (digit_keyed_up law law1 g keyed part hd)) ∙ ap (key_in keyed) (sym items) in
-    let same : means (recs c) t.0 ≡ means (recs n) t.0 = keyed_item law1 h keyed t.0 tree_b ∙ sym (keyed_item law1 (grows_trans h j) keyed t.0 tree_b) in
-    let y = kb (keyed_up law1 h keyed t.0 tree_b) ∙ ap (key_in keyed) same in
-    let m = means_is (recs n) (lawful_names law2) p _ e ∙ tail_means (recs n) (means (recs n)) p side t q o off w in
-    let own : w.key.0 ≡ key_in keyed (means (recs n) p) = key ∙ (rw (x, y) (both_keys keyed side (means (recs n) t.0) (means (recs n) q.0)) ∙ ap (key_in keyed) (sym m)) in
-    keyed_from law2 keyed p _ e (rw (tail_key side t q o off w) (eq-eqb w.key.0 _ own)) (tail_names (HasKeys keyed n) side t q o off w tree_n digit_n)
+pub tail_keyed : {v n : World} → IsLawful v → IsLawful n → Grows v n → (keyed : Bool) (side : Side) (t q o : Ref) (off : ℕ) (w : Weight) (p : ℕ) → recs n p ≡ Some (tail_record side t q o off w) → HasKeys keyed v t.0 → HasKeys keyed v q.0 → w.key.0 ≡ key_in keyed (means (recs n) p) → HasKeys keyed n p
+tail_keyed {v} {n} law law2 g keyed side t q o off w p e ht hq key = keyed_from law2 keyed p _ e (rw (tail_key side t q o off w) (eq-eqb w.key.0 _ key)) (tail_names (HasKeys keyed n) side t q o off w (keyed_up law g keyed t.0 ht) (keyed_up law g keyed q.0 hq))
+
+-- the key of a tail, from those that were weighed
+pub weighed_key : {v b c : World} → IsLawful v → Grows v b → Grows v c → (keyed : Bool) (side : Side) (t : Ref) (part : Digit) (near below key : ℕ) (made : List ℕ) → made ≡ middle_items (means (recs v)) (without side t.0 (digit_list part))
+    → (AreKeyed keyed b (digit_list part) → near ≡ key_in keyed (flat_map (means (recs b)) (digit_list part))) → (HasKeys keyed c t.0 → below ≡ key_in keyed (means (recs c) t.0)) → key ≡ max near below
+    → HasKeys keyed v t.0 → KeyedDigit keyed v part → key ≡ key_in keyed made
+weighed_key {v} {b} {c} law g h keyed side t part near below key made items kn kb key_is ht hd =
+    let l = part_keyed v keyed part hd in
+    let x = kn (all_keyed_up law g keyed (digit_list part) l) ∙ ap (key_in keyed) (keyed_items law g keyed (digit_list part) l) in
+    let y = kb (keyed_up law h keyed t.0 ht) ∙ ap (key_in keyed) (keyed_item law h keyed t.0 ht) in
+    key_is ∙ (rw (x, y) (both_keys keyed side (means (recs v) t.0) (flat_map (means (recs v)) (digit_list part))) ∙ ap (key_in keyed) (sym (items ∙ without_items (means (recs v)) side t.0 (digit_list part))))
 
 -- ---- a tree with a shorter digit
 

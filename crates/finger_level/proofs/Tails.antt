@@ -5,7 +5,6 @@ use Rattle.std.specs.List.{AllByRecursion}
 use Rattle.std.proofs.lemmas.Bool.{and_from, eq-eqb, lt-ltb, le-leb, cond-false, ne_eqb}
 use Rattle.std.proofs.lemmas.List.{length-append}
 use Rattle.lazy_rec.specs.declared.places.Ref.{Ref}
-use Rattle.lazy_rec.specs.declared.places.Item.{Item}
 use Rattle.lazy_rec.specs.declared.records.Rec.{Rec}
 use Rattle.lazy_rec.specs.Named.{Records, is_pending}
 use Rattle.lazy_rec.specs.Meaning.{means, means_of}
@@ -13,14 +12,15 @@ use Rattle.lazy_rec.specs.Numbers.{bits}
 use Rattle.lazy_rec.specs.Units.{family_of, paid, if_first, units_below}
 use Rattle.heap_store.specs.Span.{Span}
 use Rattle.heap_store.specs.World.{World, recs, same_place}
-use Rattle.heap_store.specs.Completion.{is_middle, is_digit}
+use Rattle.heap_store.specs.Completion.{elements, is_middle, is_digit}
 use Rattle.heap_store.specs.Growth.{Grows}
 use Rattle.heap_store.specs.Lawful.{IsLawful, size_in, level_of, is_of_level, level_from, level, height, is_rooted}
 use Rattle.heap_store.specs.Hand.{Hand, contains}
 use Rattle.heap_store.specs.View.{View, IsLawfulView, Fits, Quiet}
 use Rattle.heap_store.specs.Budget.{gain_at}
-use Rattle.heap_store.specs.Jobs.{IsUnpassed}
-use Rattle.heap_store.proofs.GrowthLaws.{at_true, grows_trans}
+use Rattle.heap_store.proofs.Alls.{All-append}
+use Rattle.heap_store.proofs.FillLaws.{Filled_trans}
+use Rattle.heap_store.proofs.GrowthLaws.{at_true, grows_trans, grows_refl}
 use Rattle.heap_store.proofs.LawfulLaws.{lawful_names}
 use Rattle.heap_store.proofs.MadeLaws.{made_tree_up}
 use Rattle.heap_store.proofs.MeaningLaws.{means_kept}
@@ -28,26 +28,27 @@ use Rattle.heap_store.proofs.RecordLaws.{height_kept}
 use Rattle.heap_store.proofs.HeightLaws.{height_is, height_most}
 use Rattle.heap_store.proofs.PutLaws.{place_fits}
 use Rattle.heap_store.proofs.RangeLaws.{range_from}
-use Rattle.heap_store.proofs.Steps.{Quiet_trans, unpassed_quiet}
+use Rattle.heap_store.proofs.Steps.{quiet_Filled, unpassed_quiet}
 use Rattle.heap_store.proofs.UnitLaws.{free}
 use Rattle.finger_level.specs.declared.few.Few.{Few}
 use Rattle.finger_level.specs.declared.few.Few.TheVariants as few
 use Rattle.finger_level.specs.declared.few.Weight.{Weight}
 use Rattle.finger_level.specs.declared.level.Digit.{Digit}
+use Rattle.finger_level.specs.declared.level.Digit.TheVariants as digits
 use Rattle.finger_level.specs.declared.level.Side.{Side}
 use Rattle.finger_level.specs.declared.level.Side.TheVariants as sides
 use Rattle.finger_level.specs.declared.level.Family.{Family}
 use Rattle.finger_level.specs.declared.level.Family.TheVariants.{First, Later}
 use Rattle.finger_level.specs.Few.{few_list}
-use Rattle.finger_level.specs.Level.{without, digit_few, digit_list, digit_places, middle_nodes, middle_inner, middle_items}
+use Rattle.finger_level.specs.Level.{without, digit_few, digit_list, digit_places, middle_elements, middle_trees, middle_nodes, middle_inner, middle_items}
 use Rattle.finger_level.specs.Reads.{is_tree_rec, IsDigitAt}
 use Rattle.finger_level.specs.Pushes.{beside}
-use Rattle.finger_level.specs.Puts.{units_shown, IsElement, IsTree, IsMiddle, IsLater, DigitPut, PartAsk, AreElements, tail_record, TailAsk}
+use Rattle.finger_level.specs.Puts.{units_shown, IsElement, IsTree, IsMiddle, IsLater, IsFamily, MiddlePut, DigitPut, PartAsk, AreElements, tail_record, TailAsk}
 use Rattle.finger_level.proofs.Records.{FingerWell, fits_finger, fits_later}
 use Rattle.finger_level.proofs.Values.{origin_low}
-use Rattle.finger_level.proofs.Found.{digit_grows}
-use Rattle.finger_level.proofs.Builds.{DigitWell, tree_up, tree_named, digit_named}
-use Rattle.finger_level.proofs.NodePuts.{all_left, all_right}
+use Rattle.finger_level.proofs.Found.{digit_grows, digit_elements}
+use Rattle.finger_level.proofs.Builds.{DigitWell, elements_up, items_up, tree_up, tree_named, digit_named}
+use Rattle.finger_level.proofs.NodePuts.{all_left, all_right, lows_up}
 use Rattle.finger_level.proofs.Families.{next_fits, level_few}
 use Rattle.finger_level.proofs.Funded.{first_gain}
 use Rattle.finger_level.proofs.Suspending.{place_self, makes_next, no_units}
@@ -152,6 +153,15 @@ pub without_inner : (side : Side) (t : ℕ) (ds : List ℕ) → middle_inner (wi
 without_inner sides.Left t ds = refl
 without_inner sides.Right t ds = refl
 
+-- it names nothing of its own level
+without_elements : (side : Side) (t : ℕ) (ds : List ℕ) → middle_elements (without side t ds) ≡ []
+without_elements sides.Left t ds = refl
+without_elements sides.Right t ds = refl
+
+without_trees : (side : Side) (t : ℕ) (ds : List ℕ) → middle_trees (without side t ds) ≡ []
+without_trees sides.Left t ds = refl
+without_trees sides.Right t ds = refl
+
 pub without_items : (f : ℕ → List ℕ) (side : Side) (t : ℕ) (ds : List ℕ) → middle_items f (without side t ds) ≡ beside side (f t) (flat_map f ds)
 without_items f sides.Left t ds = refl
 without_items f sides.Right t ds = refl
@@ -195,41 +205,106 @@ tail_ask {v} {run} side t part family k = record { depth = suc k.depth; elements
 pub tail_inner : {v : View} {run : Span} → (side : Side) (t : Ref) (part : Digit) (family : Family) (k : TailAsk v run side t part family) → IsTree v.seen (suc (suc k.depth)) run.next t.0
 tail_inner {v} {run} side t part family k = let inner : AllByRecursion (IsTree v.seen (suc (suc k.depth)) run.next) (t.0 ∷ []) = rw (without_inner side t.0 (digit_list part)) at k.middle.inner in inner.0
 
--- ---- what is known once the digit is put and all is weighed
+-- ---- what is asked, in a later world
 
-pub record Hung (v d : View) (run : Span) (p : ℕ) (side : Side) (t q : Ref) (part : Digit) (size : ℕ) : Type 0 where
-  pub law0 : IsLawful v.seen
-  pub law : IsLawfulView d
-  pub grows : Grows v.seen d.seen
-  pub high : run.next ≤ p
-  pub held : contains d.hand.reserved p ≡ true
-  pub under : q.0 < p
-  pub shown : IsDigitAt d.seen q.0 (digit_few part)
-  pub counts : size ≡ length (middle_items (means (recs v.seen)) (without side t.0 (digit_list part)))
-  pub unpassed : (s : Ref) → IsUnpassed s v.hand.claims → IsUnpassed s d.hand.claims
-  pub credits : v.hand.credits ≤ d.hand.credits
+module _ {a b : World} (law : IsLawful a) (g : Grows a b) (d limit : ℕ) (side : Side) (t : ℕ) (ds : List ℕ) (k : IsMiddle a d limit (without side t ds)) where
+  nodes_below : AllByRecursion (IsElement a (suc d) limit) ds
+  nodes_below = rw (without_nodes side t ds) at k.nodes
 
-pub hung : {v b c d : View} {run y : Span} {side : Side} {t : Ref} {part : Digit} {family : Family} → IsLawful v.seen → IsLawfulView b → IsLawfulView d → TailAsk v run side t part family → (q : Ref) → DigitPut v b run y part q.0 → Quiet b c → Quiet c d → (beside below : ℕ) → beside ≡ length (flat_map (means (recs b.seen)) (digit_list part)) → below ≡ length (means (recs c.seen) t.0) → Hung v d run y.next side t q part (beside + below)
-hung {v} {b} {c} {d} {run} {y} {side} {t} {part} {family} law0 law1 law k q p q1 q2 near below sa sb =
-    let l = p.laid in
-    let quiet = Quiet_trans q1 q2 in
-    let high : run.next ≤ y.next = omega (arith, l.next) in
-    let f = tail_found law0 law1.world l.filled.grows k.depth run.next y.next high side t q part k.middle p.shown in
-    let z = at_true is_tree_rec (recs b.seen t.0) f.tree.sort in
-    let same = ap length (means_kept (recs b.seen) (recs c.seen) (lawful_names law1.world) q1.grows.records t.0 (z.0, z.1)) in
-    let own = ap length f.digit.well.items in
-    record {
-      law0 = law0;
-      law = law;
-      grows = grows_trans l.filled.grows quiet.grows;
-      high = high;
-      held = rw quiet.hand (l.held.each y.next (omega arith) (omega (arith, l.next, l.end, k.room)));
-      under = p.under;
-      shown = digit_grows quiet.grows q.0 (digit_few part) p.shown;
-      counts = omega (arith, sa, sb, same, own, f.both);
-      unpassed = λ s h. unpassed_quiet quiet s (l.unpassed s h);
-      credits = (let e : d.hand.credits ≡ b.hand.credits = ap (λ (h : Hand). h.credits) quiet.hand in omega (arith, l.credits, e));
-    }
+  inner_below : AllByRecursion (IsTree a (suc (suc d)) limit) (t ∷ [])
+  inner_below = rw (without_inner side t ds) at k.inner
+
+  pub tail_same : middle_items (means (recs a)) (without side t ds) ≡ middle_items (means (recs b)) (without side t ds)
+  tail_same =
+      let z = at_true is_tree_rec (recs a t) inner_below.0.sort in
+      let tree = means_kept (recs a) (recs b) (lawful_names law) g.records t (z.0, z.1) in
+      let digit = items_up law g (suc d) limit ds nodes_below in
+      without_items (means (recs a)) side t ds ∙ (rw (tree, digit) refl ∙ sym (without_items (means (recs b)) side t ds))
+
+  pub tail_middle : (more : ℕ) → limit ≤ more → IsMiddle b d more (without side t ds)
+  tail_middle more high = record {
+    elements = rw (without_elements side t ds) tt;
+    trees = rw (without_trees side t ds) tt;
+    nodes = rw (without_nodes side t ds) (elements_up law g (suc d) limit more high ds nodes_below);
+    inner = rw (without_inner side t ds) (tree_up law g (suc (suc d)) limit more t high inner_below.0, tt);
+    small = rw (← tail_same) k.small;
+  }
+
+  tail_lows : (o : ℕ) → AllByRecursion (λ e. height (recs a) e < o) (middle_nodes (without side t ds) ++ middle_inner (without side t ds)) → AllByRecursion (λ e. height (recs b) e < o) (middle_nodes (without side t ds) ++ middle_inner (without side t ds))
+  tail_lows o h =
+      let l : AllByRecursion (λ e. height (recs a) e < o) (ds ++ t ∷ []) = rw (without_nodes side t ds, without_inner side t ds) at h in
+      let z = at_true is_tree_rec (recs a t) inner_below.0.sort in
+      let ht : height (recs b) t < o = rw (height_kept (recs a) (recs b) (lawful_names law) g.records t (z.0, z.1)) at (all_right _ ds (t ∷ []) l).0 in
+      rw (without_nodes side t ds, without_inner side t ds) (All-append (λ e. height (recs b) e < o) ds (t ∷ []) (lows_up law g (suc d) limit o ds nodes_below (all_left _ ds (t ∷ []) l)) (ht, tt))
+
+-- once the digit is put, and after reads
+module _ {v b d : View} {run y : Span} {side : Side} {t : Ref} {part : Digit} {family : Family} (law : IsLawful v.seen) (k : TailAsk v run side t part family) (q : Ref) (p : DigitPut v b run y part q.0) (quiet : Quiet b d) where
+  onward : Grows v.seen d.seen
+  onward = grows_trans p.laid.filled.grows quiet.grows
+
+  higher : run.next ≤ y.next
+  higher = omega (arith, p.laid.next)
+
+  same_items : middle_items (means (recs v.seen)) (without side t.0 (digit_list part)) ≡ middle_items (means (recs d.seen)) (without side t.0 (digit_list part))
+  same_items = tail_same law onward k.depth run.next side t.0 (digit_list part) k.middle
+
+  same_credits : d.hand.credits ≡ b.hand.credits
+  same_credits = ap (λ (h : Hand). h.credits) quiet.hand
+
+  follows_up : (f : Family) → IsLawful d.seen → IsFamily v k.depth run.next f (without side t.0 (digit_list part)) → IsFamily d k.depth y.next f (without side t.0 (digit_list part))
+  follows_up First law2 l = tt
+  follows_up (Later s o off) law2 l = record {
+    rec = l.rec;
+    here = onward.records s.0 l.rec l.here;
+    family = l.family;
+    left = l.left;
+    right = l.right;
+    makes = made_tree_up v.seen d.seen (lawful_names law) onward s.0 l.rec l.here _ l.makes;
+    newest = unpassed_quiet quiet s (p.laid.unpassed s l.newest);
+    own = later_up law law2 onward s.0 k.depth l.rec l.here l.own;
+    under = omega (arith, l.under, higher);
+    larger = (let z = ap length (means_kept (recs v.seen) (recs d.seen) (lawful_names law) onward.records s.0 (l.rec, l.here)) in let i = ap length same_items in omega (arith, l.larger, z, i));
+    low = rw (without_elements side t.0 (digit_list part), without_trees side t.0 (digit_list part)) tt;
+    low_below = tail_lows law onward k.depth run.next side t.0 (digit_list part) k.middle o.0 l.low_below;
+  }
+
+  pub tail_later : IsLawful d.seen → TailAsk d y side t (digits.Old q (digit_few part)) family
+  tail_later law2 = record {
+    depth = k.depth;
+    middle = tail_middle law onward k.depth run.next side t.0 (digit_list part) k.middle y.next higher;
+    follows = follows_up family law2 k.follows;
+    credits = (let c = same_credits in rw (← same_items) (omega (arith, k.credits, p.laid.credits, c)));
+    there = digit_grows quiet.grows q.0 (digit_few part) p.shown;
+    under = p.under;
+    held = rw quiet.hand p.laid.held;
+    room = omega (arith, p.laid.next, p.laid.end, k.room);
+  }
+
+  -- what is weighed is what is asked of
+  pub tail_counts : IsLawful b.seen → {c : View} → Quiet b c → (near below : ℕ) → near ≡ length (flat_map (means (recs b.seen)) (digit_list part)) → below ≡ length (means (recs c.seen) t.0) → near + below ≡ length (middle_items (means (recs d.seen)) (without side t.0 (digit_list part)))
+  tail_counts law1 {c} q1 near below sa sb =
+      let f = tail_found law law1 p.laid.filled.grows k.depth run.next y.next higher side t q part k.middle p.shown in
+      let z = at_true is_tree_rec (recs b.seen t.0) f.tree.sort in
+      let same = ap length (means_kept (recs b.seen) (recs c.seen) (lawful_names law1) q1.grows.records t.0 (z.0, z.1)) in
+      let own = ap length f.digit.well.items in
+      let i = ap length same_items in
+      omega (arith, sa, sb, same, own, f.both, i)
+
+  -- what is put then
+  pub tail_earlier : {n : View} {z : Span} {place : ℕ} → IsLawful d.seen → MiddlePut d n y z family 1 (without side t.0 (elements d.seen q.0)) place → MiddlePut v n run z family (suc (digit_places part)) (without side t.0 (digit_list part)) place
+  tail_earlier {n} {z} {place} law2 put =
+      let m : MiddlePut d n y z family 1 (without side t.0 (digit_list part)) place = rw (digit_elements d.seen q.0 (digit_few part) (digit_grows quiet.grows q.0 (digit_few part) p.shown)) at put in
+      let c = same_credits in
+      record {
+        filled = Filled_trans (omega (arith, p.laid.next)) (omega (arith, m.next)) p.laid.filled (quiet_Filled quiet m.filled);
+        next = omega (arith, p.laid.next, m.next);
+        end = m.end ∙ p.laid.end;
+        held = m.held;
+        tree = λ j kj. m.tree j (tail_middle law onward j run.next side t.0 (digit_list part) kj y.next higher);
+        items = m.items ∙ sym same_items;
+        made = m.made;
+        credits = rw same_items (omega (arith, p.laid.credits, m.credits, c));
+      }
 
 -- an element of a digit
 pub first_of : {w : World} (d limit : ℕ) (f : Few) → AllByRecursion (IsElement w d limit) (few_list f) → (e : ℕ) × IsElement w d limit e × (length (means (recs w) e) ≤ length (flat_map (means (recs w)) (few_list f)))
@@ -240,77 +315,72 @@ first_of {w} d limit (few.Four a b c e) h = (a.0, h.0, (let z = length-append (m
 
 -- ---- the record fits
 
-module _ {v d : View} {run : Span} {p : ℕ} {side : Side} {t q : Ref} {part : Digit} {size : ℕ} (w : Hung v d run p side t q part size) (family : Family) (k : TailAsk v run side t part family) where
-  found_here : TailFound v.seen d.seen k.depth p side t q part
-  found_here = tail_found w.law0 w.law.world w.grows k.depth run.next p w.high side t q part k.middle w.shown
+module _ {v : View} {run : Span} (law : IsLawfulView v) {side : Side} {t q : Ref} {f : Few} (family : Family) (k : TailAsk v run side t (digits.Old q f) family) (weight : Weight) (counts : weight.size ≡ length (middle_items (means (recs v.seen)) (without side t.0 (few_list f)))) where
+  in_hand : contains v.hand.reserved run.next ≡ true
+  in_hand = k.held.each run.next (omega arith) (omega (arith, k.room))
 
-  low : p < 4194304
-  low = place_fits w.law p w.held
+  found_here : TailFound v.seen v.seen k.depth run.next side t q (digits.Old q f)
+  found_here = tail_found law.world law.world (grows_refl v.seen) k.depth run.next run.next (omega arith) side t q (digits.Old q f) k.middle k.there
 
-  total : size ≡ length (beside side (means (recs d.seen) t.0) (means (recs d.seen) q.0))
-  total = let z = both_length side (means (recs d.seen) t.0) (means (recs d.seen) q.0) in omega (arith, w.counts, found_here.both, z)
+  low : run.next < 4194304
+  low = place_fits law run.next in_hand
 
-  pub hung_spends : family ≡ First → (o : Ref) → o.0 ≡ p → (key : Item) (r : Rec) → r ≡ tail_record side t q o 0 (record { size = size; key = key }) → gain_at d.seen p r ≤ units_shown family (length (middle_items (means (recs v.seen)) (without side t.0 (digit_list part))))
-  hung_spends first o same key r is =
-      let weight : Weight = record { size = size; key = key } in
-      let own : family_of p (tail_record side t q o 0 weight) ≡ (p, 0) = tail_family p side t q o 0 weight ∙ ap (λ (n : ℕ). (n, 0)) same in
-      rw (first, is, ← w.counts) (first_gain d.seen p (tail_record side t q o 0 weight) size (tail_pending side t q o 0 weight) (tail_size side t q o 0 weight) own)
+  total : weight.size ≡ length (beside side (means (recs v.seen) t.0) (means (recs v.seen) q.0))
+  total = let z = both_length side (means (recs v.seen) t.0) (means (recs v.seen) q.0) in omega (arith, counts, found_here.both, z)
 
-  pub hung_first : family ≡ First → (o : Ref) → o.0 ≡ p → (key : Item) → key.0 < 18446744073709551616 → Fits d p (tail_record side t q o 0 (record { size = size; key = key }))
-  hung_first first o same key kf =
-      let weight : Weight = record { size = size; key = key } in
-      let f = found_here in
-      let fam = tail_family p side t q o 0 weight in
-      let own : family_of p (tail_record side t q o 0 weight) ≡ (p, 0) = fam ∙ ap (λ (n : ℕ). (n, 0)) same in
-      let spends = hung_spends first o same key _ refl in
-      let z = at_true is_tree_rec (recs d.seen t.0) f.tree.sort in
-      fits_finger w.law p w.held (tail_record side t q o 0 weight) (suc k.depth)
-      (tail_well (suc k.depth) p low t q o 0 weight (digit_few part) f.tree f.digit.well w.under (omega (arith, same, low)) (omega arith) (omega (arith, w.counts, k.middle.small)) kf side total
-      (record { tree = omega (arith, height_most w.law.world t.0 (z.0, z.1), f.tree.under, same); digit = omega (arith, height_most w.law.world q.0 f.digit.well.there, w.under, same) }) (rw fam refl))
-      own (omega (arith, spends, k.credits, w.credits))
+  pub first_spends : family ≡ First → (o : Ref) → o.0 ≡ run.next → (r : Rec) → r ≡ tail_record side t q o 0 weight → gain_at v.seen run.next r ≤ units_shown family (length (middle_items (means (recs v.seen)) (without side t.0 (few_list f))))
+  first_spends first o same r is =
+      let own : family_of run.next (tail_record side t q o 0 weight) ≡ (run.next, 0) = tail_family run.next side t q o 0 weight ∙ ap (λ (n : ℕ). (n, 0)) same in
+      rw (first, is, ← counts) (first_gain v.seen run.next (tail_record side t q o 0 weight) weight.size (tail_pending side t q o 0 weight) (tail_size side t q o 0 weight) own)
 
-  pub hung_later : (s o : Ref) (off : ℕ) → family ≡ Later s o off → (key : Item) → key.0 < 18446744073709551616 → LaterFits d p (tail_record side t q o (off + 1) (record { size = size; key = key })) off
-  hung_later s o off same key kf =
-      let weight : Weight = record { size = size; key = key } in
-      let f = found_here in
-      let l : IsLater v k.depth run.next s o.0 off (without side t.0 (digit_list part)) = rw same at k.follows in
-      let here = w.grows.records s.0 l.rec l.here in
-      let made = made_tree_up v.seen d.seen (lawful_names w.law0) w.grows s.0 l.rec l.here _ l.makes in
-      let larger : size ≤ length (means (recs d.seen) s.0) = (let z = ap length (means_kept (recs v.seen) (recs d.seen) (lawful_names w.law0) w.grows.records s.0 (l.rec, l.here)) in omega (arith, w.counts, l.larger, z)) in
-      let n = next_fits w.law.world s.0 o.0 off k.depth size l.rec _ here made l.family (later_up w.law0 w.law.world w.grows s.0 k.depth l.rec l.here l.own) larger in
+  pub first_fits : family ≡ First → (o : Ref) → o.0 ≡ run.next → weight.key.0 < 18446744073709551616 → Fits v run.next (tail_record side t q o 0 weight)
+  first_fits first o same kf =
+      let d = found_here in
+      let fam = tail_family run.next side t q o 0 weight in
+      let own : family_of run.next (tail_record side t q o 0 weight) ≡ (run.next, 0) = fam ∙ ap (λ (n : ℕ). (n, 0)) same in
+      let spends = first_spends first o same _ refl in
+      let z = at_true is_tree_rec (recs v.seen t.0) d.tree.sort in
+      fits_finger law run.next in_hand (tail_record side t q o 0 weight) (suc k.depth)
+      (tail_well (suc k.depth) run.next low t q o 0 weight f d.tree d.digit.well k.under (omega (arith, same, low)) (omega arith) (omega (arith, counts, k.middle.small)) kf side total
+      (record { tree = omega (arith, height_most law.world t.0 (z.0, z.1), d.tree.under, same); digit = omega (arith, height_most law.world q.0 d.digit.well.there, k.under, same) }) (rw fam refl))
+      own (omega (arith, spends, k.credits))
+
+  pub later_fits : (s o : Ref) (off : ℕ) → family ≡ Later s o off → weight.key.0 < 18446744073709551616 → LaterFits v run.next (tail_record side t q o (off + 1) weight) off
+  later_fits s o off same kf =
+      let d = found_here in
+      let l : IsLater v k.depth run.next s o.0 off (without side t.0 (few_list f)) = rw same at k.follows in
+      let n = next_fits law.world s.0 o.0 off k.depth weight.size l.rec _ l.here l.makes l.family l.own (omega (arith, counts, l.larger)) in
       let off_few : off + 1 < 32 = (let few = depth_few in omega (arith, few, n.shallow)) in
       let z : off + 1 ≡ suc off = omega arith in
-      let fam : family_of p (tail_record side t q o (suc off) weight) ≡ (o.0, suc off) = tail_family p side t q o (suc off) weight in
-      let o_low = origin_low w.law.world s.0 o.0 off l.rec here l.family in
-      let names : AllByRecursion (λ e. height (recs v.seen) e < o.0) (digit_list part ++ t.0 ∷ []) = rw (without_nodes side t.0 (digit_list part), without_inner side t.0 (digit_list part)) at l.low_below in
+      let fam : family_of run.next (tail_record side t q o (suc off) weight) ≡ (o.0, suc off) = tail_family run.next side t q o (suc off) weight in
+      let o_low = origin_low law.world s.0 o.0 off l.rec l.here l.family in
+      let names : AllByRecursion (λ e. height (recs v.seen) e < o.0) (few_list f ++ t.0 ∷ []) = rw (without_nodes side t.0 (few_list f), without_inner side t.0 (few_list f)) at l.low_below in
       let lows = tail_low o.0 names in
-      let own = tail_own (level (recs d.seen)) side t q o (suc off) weight ∙ f.digit.well.own in
-      let root : is_rooted (recs d.seen) p (tail_record side t q o (suc off) weight) ≡ true = rw (fam, tail_size side t q o (suc off) weight, own) (cond-false (eqb (suc off) 0) true _ (ne_eqb (suc off) 0 (λ x. omega (arith, x))) ∙ and_from (leb (suc off) (suc k.depth)) _ (le-leb (suc off) (suc k.depth) (omega (arith, n.shallow))) n.first) in
+      let own = tail_own (level (recs v.seen)) side t q o (suc off) weight ∙ d.digit.well.own in
+      let root : is_rooted (recs v.seen) run.next (tail_record side t q o (suc off) weight) ≡ true = rw (fam, tail_size side t q o (suc off) weight, own) (cond-false (eqb (suc off) 0) true _ (ne_eqb (suc off) 0 (λ x. omega (arith, x))) ∙ and_from (leb (suc off) (suc k.depth)) _ (le-leb (suc off) (suc k.depth) (omega (arith, n.shallow))) n.first) in
       rw z (record {
-        fits = fits_later w.law p w.held (tail_record side t q o (suc off) weight) (suc k.depth) o.0 off
-            (tail_well (suc k.depth) p low t q o (suc off) weight (digit_few part) f.tree f.digit.well w.under (omega (arith, o_low, l.under, w.high, low)) (omega (arith, off_few)) (omega (arith, w.counts, k.middle.small)) kf side total lows root)
-            fam (omega (arith, o_low, l.under, w.high))
-            (makes_next d.seen d.hand.claims s o.0 off l.rec _ l.left l.right (without side t.0 (digit_list part)) (w.unpassed s l.newest) here l.family made (tail_is_middle d.seen o.0 (suc off) side t q part o weight refl f.digit.shown))
-            (tail_free (recs d.seen) p side t q o off weight);
+        fits = fits_later law run.next in_hand (tail_record side t q o (suc off) weight) (suc k.depth) o.0 off
+            (tail_well (suc k.depth) run.next low t q o (suc off) weight f d.tree d.digit.well k.under (omega (arith, o_low, l.under, low)) (omega (arith, off_few)) (omega (arith, counts, k.middle.small)) kf side total lows root)
+            fam (omega (arith, o_low, l.under))
+            (makes_next v.seen v.hand.claims s o.0 off l.rec _ l.left l.right (without side t.0 (few_list f)) l.newest l.here l.family l.makes (tail_is_middle v.seen o.0 (suc off) side t q (digits.Old q f) o weight refl d.digit.shown))
+            (tail_free (recs v.seen) run.next side t q o off weight);
         few = off_few;
       })
     where
-      nodes : AllByRecursion (IsElement v.seen (suc k.depth) run.next) (digit_list part)
-      nodes = rw (without_nodes side t.0 (digit_list part)) at k.middle.nodes
+      nodes : AllByRecursion (IsElement v.seen (suc k.depth) run.next) (few_list f)
+      nodes = rw (without_nodes side t.0 (few_list f)) at k.middle.nodes
 
       depth_few : suc k.depth < 31
       depth_few =
-          let e = first_of (suc k.depth) run.next (digit_few part) nodes in
-          let i = ap length (without_items (means (recs v.seen)) side t.0 (digit_list part)) in
-          let j = both_length side (means (recs v.seen) t.0) (flat_map (means (recs v.seen)) (digit_list part)) in
-          level_few w.law0 (suc k.depth) run.next e.0 e.1 (omega (arith, e.2, i, j, k.middle.small))
+          let e = first_of (suc k.depth) run.next f nodes in
+          let i = ap length (without_items (means (recs v.seen)) side t.0 (few_list f)) in
+          let j = both_length side (means (recs v.seen) t.0) (flat_map (means (recs v.seen)) (few_list f)) in
+          level_few law.world (suc k.depth) run.next e.0 e.1 (omega (arith, e.2, i, j, k.middle.small))
 
-      tail_low : (o : ℕ) → AllByRecursion (λ e. height (recs v.seen) e < o) (digit_list part ++ t.0 ∷ []) → TailLow d.seen t q o
+      tail_low : (o : ℕ) → AllByRecursion (λ e. height (recs v.seen) e < o) (few_list f ++ t.0 ∷ []) → TailLow v.seen t q o
       tail_low o h =
-          let inner : AllByRecursion (IsTree v.seen (suc (suc k.depth)) run.next) (t.0 ∷ []) = rw (without_inner side t.0 (digit_list part)) at k.middle.inner in
-          let x = at_true is_tree_rec (recs v.seen t.0) inner.0.sort in
-          let ht : height (recs d.seen) t.0 < o = rw (height_kept (recs v.seen) (recs d.seen) (lawful_names w.law0) w.grows.records t.0 (x.0, x.1)) at (all_right _ (digit_list part) (t.0 ∷ []) h).0 in
-          let hd = digit_low w.law0 w.law.world w.grows (suc k.depth) run.next q.0 (o - 1) (digit_few part) nodes (shift v.seen o (digit_list part) (all_left _ (digit_list part) (t.0 ∷ []) h)) w.shown in
+          let ht = (all_right _ (few_list f) (t.0 ∷ []) h).0 in
+          let hd = digit_low law.world law.world (grows_refl v.seen) (suc k.depth) run.next q.0 (o - 1) f nodes (shift v.seen o (few_list f) (all_left _ (few_list f) (t.0 ∷ []) h)) k.there in
           record { tree = ht; digit = omega (arith, ht, hd) }
 
 pub tail_later_spends : (w : World) (p : ℕ) (side : Side) (family : Family) (n : ℕ) (t q o : Ref) (off : ℕ) (weight : Weight) (r : Rec) → r ≡ tail_record side t q o (off + 1) weight → gain_at w p r ≤ units_shown family n

@@ -19,6 +19,7 @@ use Rattle.finger_level.specs.declared.few.Few.{Few}
 use Rattle.finger_level.specs.declared.few.Group.{Group}
 use Rattle.finger_level.specs.declared.few.Weight.{Weight}
 use Rattle.finger_level.specs.declared.level.Digit.{Digit}
+use Rattle.finger_level.specs.declared.level.Digit.TheVariants as digits
 use Rattle.finger_level.specs.declared.level.Middle.{Middle}
 use Rattle.finger_level.specs.declared.level.Level.{Level}
 use Rattle.finger_level.specs.declared.level.Level.TheVariants as levels
@@ -192,6 +193,12 @@ pub record TailAsk (v : View) (run : Span) (side : Side) (t : Ref) (digit : Digi
   pub under : IsUnder run.next digit
   pub held : IsInHand v.hand run
   pub room : run.next + suc (digit_places digit) ≤ run.end
+
+-- what the put of a suspended tail of so many items asks, whose digit stands
+pub record WeighedTailAsk (v : View) (run : Span) (side : Side) (t digit : Ref) (family : Family) (size : ℕ) : Type 0 where
+  pub few : Few
+  pub tail : TailAsk v run side t (digits.Old digit few) family
+  pub counts : size ≡ length (middle_items (means (recs v.seen)) (without side t.0 (few_list few)))
 
 -- what the put of a tree with a shorter digit asks
 pub record ShorterAsk (v : View) (run : Span) (side : Side) (l : Digit) (t : Ref) (r : Digit) (family : Family) : Type 0 where

@@ -10,13 +10,14 @@ use crate::few::{WeighedFew, Weight};
 use crate::level::{Family, Side};
 use crate::near_puts::put_near;
 use crate::pops::{both_ends, drawn_level, few_of_group, take_end};
-use crate::puts::put_level;
+use crate::puts::{put_level, put_weighed_tail};
 use crate::reads::{group_elements, read_weighed};
 use heap_store::{Heap, Run};
 use lazy_rec::{Item, Rec, Ref};
 
 /// Publishes the level that the middle's value at `q` and the digit at `p` make: its items weigh `whole`. In a tree without keys,
-/// where the middle's digit has more than one node, only the middle's record, that digit and the node are read.
+/// where the middle is deep, only its record, its digit at that end and the node there are read. Where the digit has no other
+/// node, what is left of the middle is a suspended tail.
 pub fn put_drawn<H: Heap>(
     h: &mut H,
     side: Side,
@@ -48,12 +49,13 @@ pub fn put_drawn<H: Heap>(
     let (near, far) = both_ends(side, left, right);
     let digit = read_weighed(h, near);
     let taken = take_end(side, digit.few);
-    let Some(rest) = taken.rest else {
-        return put_made(h, side, q, p, whole, family, keyed, run);
-    };
     let node = read_weighed_node(h, taken.element);
-    let less = without(digit.weight.size, node.weight.size);
     let inner = without(size, node.weight.size);
+    let Some(rest) = taken.rest else {
+        let tail = put_weighed_tail(h, side, middle, far, inner, family, run);
+        return put_near(h, side, node.few, node.weight, tail, p, whole, run);
+    };
+    let less = without(digit.weight.size, node.weight.size);
     let shorter = put_near(h, side, rest, less, middle, far, inner, run);
     put_near(h, side, node.few, node.weight, shorter, p, whole, run)
 }

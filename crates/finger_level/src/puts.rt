@@ -5,7 +5,7 @@ ghost use Rattle.lazy_rec.specs.declared.places.Ref.{Ref};
 ghost use Rattle.lazy_rec.specs.declared.events.Kind.{Kind};
 ghost use Rattle.lazy_rec.specs.Meaning.{means};
 ghost use Rattle.heap_store.specs.World.{recs, holds};
-ghost use Rattle.heap_store.specs.Completion.{between};
+ghost use Rattle.heap_store.specs.Completion.{between, elements};
 ghost use Rattle.heap_store.specs.Hand.{IsInHand};
 ghost use Rattle.heap_store.specs.Lawful.{has_keys, key_for};
 ghost use Rattle.heap_store.specs.View.{Quiet};
@@ -13,7 +13,7 @@ ghost use Rattle.finger_level.specs.Few.{few_list, group_list};
 ghost use Rattle.finger_level.specs.Level.{all_of, if_there, tree_of, made_of, items_of_made, digit_list, digit_places, without, shorter, nodes_list, nodes_places, row_list, row_places, middle_of, middle_places};
 ghost use Rattle.finger_level.specs.Keyed.{HasKeys, AreKeyed, KeyedDigit, KeyedMiddle, KeyedLevel, key_in};
 ghost use Rattle.finger_level.specs.Reads.{cached_key, is_element, is_tree_rec, IsThere, IsUnder, cached_size};
-ghost use Rattle.finger_level.specs.Puts.{PartAsk, NodePut, DigitPut, IsMiddle, IsFamily, MiddlePut, push_record, push_middle, NodesPut, PushAsk, tail_record, TailAsk, ShorterAsk, RowPut, concat_record, BetweenAsk, EndsAsk, EndsPut, MiddleAsk, tree_at, LevelAsk, LevelPut};
+ghost use Rattle.finger_level.specs.Puts.{PartAsk, NodePut, DigitPut, IsMiddle, IsFamily, MiddlePut, push_record, push_middle, NodesPut, PushAsk, tail_record, TailAsk, WeighedTailAsk, ShorterAsk, RowPut, concat_record, BetweenAsk, EndsAsk, EndsPut, MiddleAsk, tree_at, LevelAsk, LevelPut};
 ghost use Rattle.finger_level.specs.Pushes.{pushed_list};
 
 use crate::few::{Few, Group, Weight, digit, node};
@@ -301,6 +301,24 @@ fn put_tail<H: Heap>(
         size: near.size + inner.size,
         key: Item(near.key.0.max(inner.key.0)),
     };
+    put_weighed_tail(h, side, tree, digit, weight, family, run)
+}
+
+/// The same of a digit that stands, where the items of both weigh `weight`.
+#[inline(always)]
+pub(crate) fn put_weighed_tail<H: Heap>(
+    h: &mut H,
+    side: Side,
+    tree: Ref,
+    digit: Ref,
+    weight: Weight,
+    family: Family,
+    run: &mut Run,
+) -> Ref
+    requires { WeighedTailAsk (H.view h.old) run.old side tree digit family weight.size }
+    ensures put { MiddlePut (H.view h.old) (H.view h.new) run.old run.new family 1 (without side tree.0 (elements (H.view h.old).seen digit.0)) result.0 }
+    ensures keys { (keyed : Bool) → HasKeys keyed (H.view h.old).seen tree.0 → HasKeys keyed (H.view h.old).seen digit.0 → weight.key.0 ≡ key_in keyed (means (recs (H.view h.new).seen) result.0) → HasKeys keyed (H.view h.new).seen result.0 }
+{
     match family {
         Family::First => {
             let origin = run.next();
