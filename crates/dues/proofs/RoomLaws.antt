@@ -118,13 +118,13 @@ places_to_fit events last few =
           (λ i. places_of_fit (event_of events) (kind_of (event_of events) i) (event_of events i)) last,
     )
 
--- and with one more event, whose places don't depend on sizes
-pub fixed_more : (events : List Event) (kinds : List Kind) (i total p : ℕ) (k : Kind) (e : Event) → total ≡ places_to events i → slice_get kinds i ≡ Some k → slice_get events i ≡ Some e
-    → slice_get kinds i ≡ kind_of (event_of events) (suc i) → ((n m : ℕ) → places k e.op n m ≡ p) → total + p ≡ places_to events (suc i)
-fixed_more events kinds i total p k e is kind here same all =
+-- and with one more event
+pub places_more : (events : List Event) (kinds : List Kind) (i total p : ℕ) (k : Kind) (e : Event) → total ≡ places_to events i → slice_get kinds i ≡ Some k → slice_get events i ≡ Some e
+    → slice_get kinds i ≡ kind_of (event_of events) (suc i) → p ≡ places k e.op (bound_of (event_of events) e.base) (bound_of (event_of events) e.other) → total + p ≡ places_to events (suc i)
+places_more events kinds i total p k e is kind here same of_event =
     let named = event_of events in
     let added : p ≡ places_of named (kind_of named (suc i)) (named (suc i)) =
-    sym (all (bound_of named e.base) (bound_of named e.other)) ∙ (ap (λ o. places_of named o (Some e)) (sym kind ∙ same) ∙ ap (places_of named (kind_of named (suc i))) (sym here)) in
+    of_event ∙ (ap (λ o. places_of named o (Some e)) (sym kind ∙ same) ∙ ap (places_of named (kind_of named (suc i))) (sym here)) in
     ap (λ t. t + p) is ∙ ap (λ q. places_to events i + q) added
 
 pub bounds_to_fit : (events : List Event) (last : ℕ) → last ≤ MOST_EVENTS → sum_to (both_bounds (event_of events)) last < 2 ^ 49

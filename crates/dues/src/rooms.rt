@@ -1,57 +1,51 @@
 //! The room of a script and the sum of its size bounds, in one pass over its events.
 
-ghost use Rattle.std.specs.Prelude.{◌≡◌, ℕ, suc, ◌+◌, ◌*◌, ◌≤◌, ◌<◌, ◌^◌, cond, List, Some, IfOk, IfSome, IsSome, length, slice_get};
+ghost use Rattle.std.specs.Prelude.{◌≡◌, ℕ, suc, ◌+◌, ◌*◌, ◌≤◌, ◌<◌, ◌^◌, [], ◌∷◌, cond, List, IfOk, IfSome, length, slice_get, vec_capacity};
 ghost use Rattle.lazy_rec.specs.declared.events.Event.{Event};
+ghost use Rattle.lazy_rec.specs.declared.limits.TheConstants.{MOST_EVENTS};
 ghost use Rattle.lazy_rec.specs.Kinds.{is_split};
-ghost use Rattle.lazy_rec.specs.History.{event_of, kind_of, IsScript};
+ghost use Rattle.lazy_rec.specs.History.{event_name, event_of, kind_of, IsScript};
 ghost use Rattle.dues.specs.Sizes.{second_bound};
 ghost use Rattle.dues.specs.Rooms.{room, room_at_sizes, places, places_of, places_at_size, model_size};
-ghost use Rattle.dues.specs.Versions.{versions_at, bound_at, next_kind, next_bounds, next_places};
+ghost use Rattle.dues.specs.Versions.{no_bounds, bound_at, next_bounds, next_places};
 
-use crate::sizes::{second_bound, size_bound};
-use crate::tables::{direct, due};
+use crate::sizes::{bound_from_base, joined, second_bound};
+use crate::tables::{digits, direct, due};
 use lazy_rec::{Event, Kind, NoMemory, Op, event_name, is_second};
 use std::alloc::Global;
 
-/// What is kept of the versions of a name: their kind and their size bounds, the second one 0 where there is one version.
+/// The size bounds of a name: its first version's, and its second's, 0 where there is one version.
 #[derive(Clone, Copy)]
-struct VersionBounds {
-    kind: Kind,
+struct SizeBounds {
     first: u32,
     second: u32,
 }
 
-/// What is kept of the versions of a name. Names count from 1.
-#[inline(always)]
-fn versions_at(kept: &[VersionBounds], name: u32) -> Option<VersionBounds>
-    ensures { result ≡ versions_at kept.now name }
+/// What is kept of the names before the first event: of name 0, which stands for no version. So many events fit behind it.
+fn before_all(alloc: Global, events: usize) -> Result<Vec<SizeBounds>, NoMemory>
+    requires { events ≤ MOST_EVENTS }
+    ensures none { IfOk result (λ kept. kept.items ≡ no_bounds ∷ []) }
+    ensures room { IfOk result (λ kept. events < vec_capacity kept) }
 {
-    let index = name.checked_sub(1)?;
-    kept.get(index as usize).copied()
+    let mut kept = Vec::with_capacity(alloc, events + 1).map_err(|_| NoMemory)?;
+    kept.push_reserved(SizeBounds {
+        first: 0,
+        second: 0,
+    });
+    Ok(kept)
 }
 
-/// The size bound of a version, 0 where there is none.
+/// The size bound of a version of a name so far.
 #[inline(always)]
-fn bound_at(kept: &[VersionBounds], version: u32) -> u32
+fn bound_at(kept: &[SizeBounds], version: u32) -> u32
+    requires { event_name version < length kept.now }
     ensures { result ≡ bound_at kept.now version }
 {
-    match versions_at(kept, event_name(version)) {
-        Some(bounds) if is_second(version) => bounds.second,
-        Some(bounds) => bounds.first,
-        None => 0,
-    }
-}
-
-/// The kind of the versions that an event makes: that of `new`, else that of its base.
-#[inline(always)]
-fn next_kind(kept: &[VersionBounds], event: &Event) -> Kind
-    requires { IsSome (next_kind kept.now event.now) }
-    ensures { next_kind kept.now event.now ≡ Some result }
-{
-    match (event.op, versions_at(kept, event_name(event.base))) {
-        (Op::New(kind), _) => kind,
-        (_, Some(versions)) => versions.kind,
-        (_, None) => unreachable!(),
+    let name = event_name(version) as usize;
+    if is_second(version) {
+        kept[name].second
+    } else {
+        kept[name].first
     }
 }
 
@@ -66,19 +60,19 @@ fn bound_of_second(event: &Event, b1: u32) -> u32
     }
 }
 
-/// What is kept of the versions that an event makes.
+/// The size bounds of the versions that an event makes, from the bound `b1` of its base.
 #[inline(always)]
-fn next_versions(kept: &[VersionBounds], event: &Event) -> VersionBounds
-    requires { IsSome (next_kind kept.now event.now) }
-    ensures kind { next_kind kept.now event.now ≡ Some result.kind }
-    ensures bounds { (result.first, result.second) ≡ next_bounds kept.now event.now }
+fn next_bounds(kept: &[SizeBounds], event: &Event, b1: u32) -> SizeBounds
+    requires base { b1 ≡ bound_at kept.now event.now.base }
+    requires other { event_name event.now.other < length kept.now }
+    ensures { (result.first, result.second) ≡ next_bounds kept.now event.now }
 {
-    let kind = next_kind(kept, event);
-    let b1 = bound_at(kept, event.base);
-    let b2 = bound_at(kept, event.other);
-    VersionBounds {
-        kind,
-        first: size_bound(kind, event, b1, b2),
+    let first = match bound_from_base(event, b1) {
+        Some(bound) => bound,
+        None => joined(b1, bound_at(kept, event.other)),
+    };
+    SizeBounds {
+        first,
         second: bound_of_second(event, b1),
     }
 }
@@ -89,7 +83,7 @@ fn fixed_places(kind: Kind, op: Op) -> Option<u64>
     ensures { IfSome result (λ p. (n m : ℕ) → places kind op n m ≡ p) }
 {
     match (kind, op) {
-        (_, Op::Size | Op::Head) => Some(0),
+        (_, Op::Size | Op::Head | Op::First | Op::Last | Op::Nth | Op::Max | Op::Has) => Some(0),
         (Kind::Stream | Kind::Bankq | Kind::Rtq | Kind::Heap, Op::New(_)) => Some(1),
         (_, Op::New(_)) => Some(0),
         (Kind::Stream, Op::Cons) => Some(2),
@@ -103,40 +97,64 @@ fn fixed_places(kind: Kind, op: Op) -> Option<u64>
     }
 }
 
-/// The places that an event of a kind may take: its own, and eight for each step that its due pays.
-#[inline(never)]
-fn places_by_size(kept: &[VersionBounds], kind: Kind, event: &Event) -> u64
-    ensures { result ≡ next_places kept.now kind event.now }
-{
-    let n1 = bound_at(kept, event.base);
-    let n2 = bound_at(kept, event.other);
-    direct(kind, event.op, n1, n2) + 8 * due(kind, event.op, n1, n2)
-}
-
-/// The same, which looks at the bases only where the places depend on their sizes.
+/// The same where they depend on the size bound `n1` of its base alone, of the operations that scripts have most of.
 #[inline(always)]
-fn next_places(kept: &[VersionBounds], kind: Kind, event: &Event) -> u64
-    ensures { result ≡ next_places kept.now kind event.now }
+fn places_by_base(kind: Kind, op: Op, n1: u32) -> Option<u64>
+    ensures { IfSome result (λ p. (m : ℕ) → places kind op n1 m ≡ p) }
 {
-    match fixed_places(kind, event.op) {
-        Some(places) => places,
-        None => places_by_size(kept, kind, event),
+    let n = n1 as u64;
+    match (op, kind) {
+        (Op::Min, Kind::Heap) => Some(1 + 8 * digits(n)),
+        (Op::Delmin, Kind::Heap) => Some(2 * digits(n) + 3 + 8 * 2 * digits(n)),
+        (Op::Pushl | Op::Pushr, Kind::Seq) => Some(6 + 8 * digits(n + 1)),
+        (Op::Popl | Op::Popr, Kind::Seq) => Some(6 + 8 * digits(n)),
+        _ => None,
     }
 }
 
-/// The room of a script: the sum over its events of `direct + 8 * due`, at the size bounds of their bases in place of
-/// sizes. A store with so many free nodes is never full in a run of the script. It is below 2^54.
+/// The places that an event of a kind may take: its own, and eight for each step that its due pays.
 #[inline(never)]
-pub fn room(alloc: Global, events: &[Event]) -> Result<u64, NoMemory>
-    requires { IsScript events.now }
+fn places_by_size(kind: Kind, op: Op, n1: u32, n2: u32) -> u64
+    ensures { result ≡ places kind op n1 n2 }
+{
+    direct(kind, op, n1, n2) + 8 * due(kind, op, n1, n2)
+}
+
+/// The same, from the bound `n1` of its base. It looks at its other version only where the places may depend on it.
+#[inline(always)]
+fn next_places(kept: &[SizeBounds], kind: Kind, event: &Event, n1: u32) -> u64
+    requires base { n1 ≡ bound_at kept.now event.now.base }
+    requires other { event_name event.now.other < length kept.now }
+    ensures { result ≡ next_places kept.now kind event.now }
+{
+    if let Some(places) = places_by_base(kind, event.op, n1) {
+        return places;
+    }
+    if let Some(places) = fixed_places(kind, event.op) {
+        return places;
+    }
+    places_by_size(kind, event.op, n1, bound_at(kept, event.other))
+}
+
+/// The room of a script: the sum over its events of `direct + 8 * due`, at the size bounds of their bases in place of
+/// sizes. A store with so many free nodes is never full in a run of the script. It is below 2^54. The kinds are those of the
+/// events, in order.
+#[inline(never)]
+pub fn room(alloc: Global, kinds: &[Kind], events: &[Event]) -> Result<u64, NoMemory>
+    requires script { IsScript events.now }
+    requires many { length kinds.now ≡ length events.now }
+    requires kinds { (i : ℕ) → i < length events.now → slice_get kinds.now i ≡ kind_of (event_of events.now) (suc i) }
     ensures { IfOk result (λ places. places ≡ room events.now) }
 {
-    let mut kept = Vec::with_capacity(alloc, events.len()).map_err(|_| NoMemory)?;
+    let mut kept = before_all(alloc, events.len())?;
     let mut total = 0;
-    for event in events {
-        let versions = next_versions(&kept, event);
-        total += next_places(&kept, versions.kind, event);
-        kept.push_reserved(versions);
+    for i in 0..events.len() {
+        let event = &events[i];
+        let seen = kept.as_slice();
+        let base = bound_at(seen, event.base);
+        total += next_places(seen, kinds[i], event, base);
+        let bounds = next_bounds(seen, event, base);
+        kept.push_reserved(bounds);
     }
     Ok(total)
 }
@@ -166,12 +184,14 @@ pub fn model_size(alloc: Global, events: &[Event]) -> Result<u64, NoMemory>
     requires { IsScript events.now }
     ensures { IfOk result (λ items. items ≡ model_size events.now) }
 {
-    let mut kept = Vec::with_capacity(alloc, events.len()).map_err(|_| NoMemory)?;
+    let mut kept = before_all(alloc, events.len())?;
     let mut total = 0;
     for event in events {
-        let versions = next_versions(&kept, event);
-        total += versions.first as u64 + versions.second as u64;
-        kept.push(versions).map_err(|_| NoMemory)?;
+        let seen = kept.as_slice();
+        let base = bound_at(seen, event.base);
+        let bounds = next_bounds(seen, event, base);
+        total += bounds.first as u64 + bounds.second as u64;
+        kept.push_reserved(bounds);
     }
     Ok(total)
 }
@@ -222,7 +242,7 @@ mod tests {
     /// By hand the events take 1, 3 + 8 * 1, 0, 2 + 8 * 2 and 0 places, and the size bounds are 0, 1, 1, 0 and 0.
     #[test]
     fn smallest_rotation(rt: HostRuntime) -> Result<(), Fail> {
-        assert_eq!(rt; room(rt.alloc(), &ROTATION)?, 30);
+        assert_eq!(rt; room(rt.alloc(), &[Kind::Bankq; 5], &ROTATION)?, 30);
         assert_eq!(rt; model_size(rt.alloc(), &ROTATION)?, 2);
         Ok(())
     }
@@ -231,7 +251,7 @@ mod tests {
     /// 1 and 1, 1 and 0, and 0.
     #[test]
     fn second_versions(rt: HostRuntime) -> Result<(), Fail> {
-        assert_eq!(rt; room(rt.alloc(), &CUTS)?, 156);
+        assert_eq!(rt; room(rt.alloc(), &[Kind::Seq; 6], &CUTS)?, 156);
         assert_eq!(rt; model_size(rt.alloc(), &CUTS)?, 6);
         Ok(())
     }

@@ -10,7 +10,7 @@ use lazy_rec::{Kind, Op};
 
 /// The number of binary digits.
 #[inline(always)]
-fn digits(n: u64) -> u64
+pub(crate) fn digits(n: u64) -> u64
     ensures value { result ≡ bits n }
     ensures few { result ≤ 64 }
     ensures fits_squared { 2 * result * result ≤ 8192 }

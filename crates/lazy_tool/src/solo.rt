@@ -99,9 +99,10 @@ fn room_of(alloc: Global, script: &Script) -> Result<u64, NoMemory>
     ensures { IfOk result (λ places. places ≡ room script.now.events) }
 {
     let events = script.events();
-    match fixed_room(script.kinds(), events) {
+    let kinds = script.kinds();
+    match fixed_room(kinds, events) {
         Some(places) => Ok(places),
-        None => room(alloc, events),
+        None => room(alloc, kinds, events),
     }
 }
 

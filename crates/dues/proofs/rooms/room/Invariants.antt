@@ -1,11 +1,11 @@
-use Rattle.std.proofs.Common.{◌≤◌, length, vec_capacity}
+use Rattle.std.proofs.Common.{◌<◌, length, vec_capacity}
 use Rattle.dues.proofs.RoomLaws.{places_to}
 use Rattle.dues.proofs.VersionLaws.{IsPassed}
 use Rattle.dues.proofs.rooms.room.Given as goal
 
-abbrev pub invariant-loop-event : goal.invariant-loop-event
-invariant-loop-event l =
+abbrev pub invariant-loop-i : goal.invariant-loop-i
+invariant-loop-i l =
     record {
-      passed : IsPassed l.events (places_to l.events) l.kept.items l.event-index l.total;
-      room : length l.events ≤ vec_capacity l.kept;
+      passed : IsPassed l.events (places_to l.events) l.kept.items l.i l.total;
+      room : length l.events < vec_capacity l.kept;
     }
