@@ -1,17 +1,29 @@
 -- The tree with the least root of a list, by going through it.
-use Rattle.std.proofs.Common.{◌≡◌, ℕ, suc, ◌+◌, ◌≤◌, ltb, leb, refl, ap, ◌∙◌, arith, Bool, true, false, cond, ◌&&◌, Option, Some, None}
+use Rattle.std.proofs.Common.{◌≡◌, ℕ, suc, ◌+◌, ◌<◌, ◌≤◌, ltb, leb, refl, sym, ap, ◌∙◌, arith, Bool, true, false, cond, ◌&&◌, Option, Some, None}
 use Rattle.std.proofs.lemmas.Bool.{and_parts, leb-true, lt-ltb, ltb-true}
 use Rattle.std.proofs.lemmas.Grind.{common_steps}
 use Rattle.heap_store.specs.World.{World, recs}
 use Rattle.heap_store.specs.Forest.{Forest, no_trees, forest, is_trees_only, ranks_rise}
+use Rattle.heap_store.specs.Growth.{Grows}
 use Rattle.heap_store.specs.Lawful.{IsLawful}
 use Rattle.binom_heap.specs.declared.trees.FirstTree.{FirstTree}
 use Rattle.binom_heap.specs.declared.removal.LeastTree.{LeastTree}
 use Rattle.binom_heap.specs.Trees.{tree_record, IsFirst}
-use Rattle.binom_heap.specs.Removal.{Least, least_step, least_of, IsFound, IsLeast, found_at, lesser, IsLesser}
+use Rattle.binom_heap.specs.Removal.{Least, least_step, least_of, IsFound, IsLeast}
 use Rattle.binom_heap.proofs.FirstTrees.{FirstIs, first_is}
+use Rattle.binom_heap.proofs.ForestLaws.{rise_lower}
+use Rattle.binom_heap.proofs.Linking.{forest_up, kids_up}
 
 -- ---- roots that are compared in order
+
+-- a tree that was found, as one of a list
+abbrev pub found_at : World → LeastTree → Least
+found_at w t = record { before = t.before; rank = t.tree.rank; item = t.tree.item.0; kids = forest (recs w) t.tree.kids.0 }
+
+-- of a tree and of what is found in a list that stands behind so many, the lesser root, of equal ones the first
+abbrev pub lesser : Least → ℕ → Option Least → Least
+lesser l passed None = l
+lesser l passed (Some later) = cond (ltb later.item l.item) (record later { before = later.before + passed }) l
 
 abbrev tree_at : ℕ → ℕ → ℕ → Forest → Least
 tree_at n r x k = record { before = n; rank = r; item = x; kids = k }
@@ -48,13 +60,19 @@ lesser_first r x k (Some m) = go (ltb m.item x)
 
 -- ---- the trees of a list
 
--- no tree is left
-pub lesser_none : {w : World} (found : LeastTree) (passed list : ℕ) → recs w found.tree.place.0 ≡ Some (tree_record found.tree) → forest (recs w) list ≡ no_trees → IsLesser w found passed list found
-lesser_none found passed list there none = record { there = there; low = λ bound f l. f; is = rw none refl; early = λ h. h }
+-- the first tree with the least root of all is that of a published tree and of those that are left, behind so many
+pub record IsLeastSoFar (w : World) (list : ℕ) (t : LeastTree) (passed left : ℕ) : Type 0 where
+  pub there : recs w t.tree.place.0 ≡ Some (tree_record t.tree)
+  pub low : t.tree.place.0 < list
+  pub early : t.before ≤ t.tree.rank
+  pub left_low : left < list
+  pub only : is_trees_only (recs w) left ≡ true
+  pub rise : ranks_rise passed (forest (recs w) left) ≡ true
+  pub is : least_of (forest (recs w) list) ≡ Some (lesser (found_at w t) passed (least_of (forest (recs w) left)))
 
 -- the ranks behind a list's first tree rise on, and as many trees may stand before it as its rank allows
 pub record RestRises (w : World) (passed : ℕ) (f : FirstTree) : Type 0 where
-  pub rest : ranks_rise (suc f.tree.rank) (forest (recs w) f.rest.0) ≡ true
+  pub rest : ranks_rise (passed + 1) (forest (recs w) f.rest.0) ≡ true
   pub early : passed ≤ f.tree.rank
 
 pub rest_rises : {w : World} → IsLawful w → (passed list : ℕ) (f : FirstTree) → is_trees_only (recs w) list ≡ true → IsFirst w list f → ranks_rise passed (forest (recs w) list) ≡ true → RestRises w passed f
@@ -63,54 +81,73 @@ rest_rises {w} law passed list f only i rise =
     let e = k.trees in
     let up : (leb passed f.tree.rank && ranks_rise (suc f.tree.rank) (forest (recs w) f.rest.0)) ≡ true = rw e at rise in
     let p = and_parts (leb passed f.tree.rank) (ranks_rise (suc f.tree.rank) (forest (recs w) f.rest.0)) up in
-    record { rest = p.1; early = leb-true passed f.tree.rank p.0 }
+    let early = leb-true passed f.tree.rank p.0 in
+    record { rest = rise_lower (passed + 1) (suc f.tree.rank) _ (omega (arith, early)) p.1; early = early }
 
 abbrev pub here_at : ℕ → FirstTree → LeastTree
 here_at n f = record { before = n; tree = f.tree }
 
-pub lesser_next : {w : World} → IsLawful w → (found : LeastTree) (passed list : ℕ) (f : FirstTree) → is_trees_only (recs w) list ≡ true → IsFirst w list f → passed ≤ f.tree.rank → (best : LeastTree) → best ≡ cond (ltb f.tree.item.0 found.tree.item.0) (here_at passed f) found → (t : LeastTree) → IsLesser w best (passed + 1) f.rest.0 t → IsLesser w found passed list t
-lesser_next {w} law found passed list f only i early best best_is t k = by (ltb f.tree.item.0 found.tree.item.0) refl best_is
-  where
-    first : FirstIs w list f
-    first = first_is law list f only i
-
-    by : (b : Bool) → ltb f.tree.item.0 found.tree.item.0 ≡ b → best ≡ cond b (here_at passed f) found → IsLesser w found passed list t
-    by true e z =
-        let trees = first.trees in
-        let is = rw z at k.is in
-        let step = lesser_step (found_at w found) passed f.tree.rank f.tree.item.0 (forest (recs w) f.tree.kids.0) (least_of (forest (recs w) f.rest.0)) true e in
-        let low = rw z at k.low in
-        let soon = rw z at k.early in
-        record { there = k.there; low = λ bound x y. low bound (omega (arith, first.tree_low, y)) (omega (arith, first.rest_low, y)); is = rw trees (is ∙ step); early = λ h. soon early }
-    by false e z =
-        let trees = first.trees in
-        let is = rw z at k.is in
-        let step = lesser_step (found_at w found) passed f.tree.rank f.tree.item.0 (forest (recs w) f.tree.kids.0) (least_of (forest (recs w) f.rest.0)) false e in
-        let low = rw z at k.low in
-        let soon = rw z at k.early in
-        record { there = k.there; low = λ bound x y. low bound x (omega (arith, first.rest_low, y)); is = rw trees (is ∙ step); early = λ h. soon h }
-
--- the first tree of all and those behind it
-pub lesser_all : {w : World} → IsLawful w → (list : ℕ) (f : FirstTree) → is_trees_only (recs w) list ≡ true → IsFirst w list f → (t : LeastTree) → IsLesser w (here_at 0 f) 1 f.rest.0 t → IsLeast w list (least_of (forest (recs w) list)) (Some t)
-lesser_all {w} law list f only i t k =
+-- the first tree of all
+pub so_far_first : {w : World} → IsLawful w → (list : ℕ) (f : FirstTree) → is_trees_only (recs w) list ≡ true → IsFirst w list f → ranks_rise 0 (forest (recs w) list) ≡ true → IsLeastSoFar w list (here_at 0 f) 1 f.rest.0
+so_far_first {w} law list f only i rise =
     let first = first_is law list f only i in
-    let l = lesser (found_at w (here_at 0 f)) 1 (least_of (forest (recs w) f.rest.0)) in
-    let all : least_of (forest (recs w) list) ≡ Some l = ap least_of first.trees ∙ lesser_first f.tree.rank f.tree.item.0 (forest (recs w) f.tree.kids.0) (least_of (forest (recs w) f.rest.0)) in
-    let found : IsFound w list l t = record {
-      there = k.there;
-      low = k.low list first.tree_low first.rest_low;
-      before = ap (λ (m : Least). m.before) k.is;
-      rank = ap (λ (m : Least). m.rank) k.is;
-      item = ap (λ (m : Least). m.item) k.is;
-      kids = ap (λ (m : Least). m.kids) k.is;
-      early = k.early (omega arith);
-    } in
-    rw all found
+    record {
+      there = i.tree;
+      low = first.tree_low;
+      early = omega arith;
+      left_low = first.rest_low;
+      only = first.rest_only;
+      rise = (rest_rises law 0 list f only i rise).rest;
+      is = ap least_of first.trees ∙ lesser_first f.tree.rank f.tree.item.0 (forest (recs w) f.tree.kids.0) (least_of (forest (recs w) f.rest.0));
+    }
 
--- the tree of the two that is kept is published
-pub lesser_there : {w : World} (found : LeastTree) (passed list : ℕ) (f : FirstTree) → IsFirst w list f → recs w found.tree.place.0 ≡ Some (tree_record found.tree) → (best : LeastTree) → best ≡ cond (ltb f.tree.item.0 found.tree.item.0) (here_at passed f) found → recs w best.tree.place.0 ≡ Some (tree_record best.tree)
-lesser_there {w} found passed list f i there best best_is = by (ltb f.tree.item.0 found.tree.item.0) best_is
+-- one tree more is compared
+pub so_far_next : {w : World} → IsLawful w → (list : ℕ) (t : LeastTree) (passed left : ℕ) → IsLeastSoFar w list t passed left → (f : FirstTree) → IsFirst w left f → (best : LeastTree) → best ≡ cond (ltb f.tree.item.0 t.tree.item.0) (here_at passed f) t → IsLeastSoFar w list best (passed + 1) f.rest.0
+so_far_next {w} law list t passed left k f i best best_is = by (ltb f.tree.item.0 t.tree.item.0) refl best_is
   where
-    by : (b : Bool) → best ≡ cond b (here_at passed f) found → recs w best.tree.place.0 ≡ Some (tree_record best.tree)
-    by true z = rw z i.tree
-    by false z = rw z there
+    first : FirstIs w left f
+    first = first_is law left f k.only i
+
+    rises : RestRises w passed f
+    rises = rest_rises law passed left f k.only i k.rise
+
+    step : (b : Bool) → ltb f.tree.item.0 t.tree.item.0 ≡ b → least_of (forest (recs w) list) ≡ Some (lesser (cond b (found_at w (here_at passed f)) (found_at w t)) (passed + 1) (least_of (forest (recs w) f.rest.0)))
+    step b e =
+        let all = k.is ∙ ap (λ (z : Forest). Some (lesser (found_at w t) passed (least_of z))) first.trees in
+        all ∙ ap Some (sym (lesser_step (found_at w t) passed f.tree.rank f.tree.item.0 (forest (recs w) f.tree.kids.0) (least_of (forest (recs w) f.rest.0)) b e))
+
+    by : (b : Bool) → ltb f.tree.item.0 t.tree.item.0 ≡ b → best ≡ cond b (here_at passed f) t → IsLeastSoFar w list best (passed + 1) f.rest.0
+    by true e z = rw z (record {
+      there = i.tree;
+      low = omega (arith, first.tree_low, k.left_low);
+      early = rises.early;
+      left_low = omega (arith, first.rest_low, k.left_low);
+      only = first.rest_only;
+      rise = rises.rest;
+      is = step true e;
+    })
+    by false e z = rw z (record {
+      there = k.there;
+      low = k.low;
+      early = k.early;
+      left_low = omega (arith, first.rest_low, k.left_low);
+      only = first.rest_only;
+      rise = rises.rest;
+      is = step false e;
+    })
+
+-- no tree is left
+pub so_far_all : {a b : World} → IsLawful a → Grows a b → (list : ℕ) → is_trees_only (recs a) list ≡ true → (t : LeastTree) (passed left : ℕ) → IsLeastSoFar a list t passed left → forest (recs a) left ≡ no_trees → IsLeast b list (least_of (forest (recs b) list)) (Some t)
+so_far_all {a} {b} law x list only t passed left k none =
+    let all = forest_up law x list only in
+    let is = k.is ∙ ap (λ (z : Forest). Some (lesser (found_at a t) passed (least_of z))) none in
+    let found : IsFound b list (found_at a t) t = record {
+      there = x.records _ _ k.there;
+      low = k.low;
+      before = refl;
+      rank = refl;
+      item = refl;
+      kids = kids_up law x t.tree.place.0 t.tree k.there;
+      early = k.early;
+    } in
+    rw (all, is) found

@@ -57,22 +57,6 @@ IsLeast w list None (Some _) = ⊥
 IsLeast w list (Some _) None = ⊥
 IsLeast w list (Some l) (Some t) = IsFound w list l t
 
--- a tree that was found, as one of a list
-abbrev pub found_at : World → LeastTree → Least
-found_at w t = record { before = t.before; rank = t.tree.rank; item = t.tree.item.0; kids = forest (recs w) t.tree.kids.0 }
-
--- of a tree and of what is found in a list that stands behind so many, the lesser root, of equal ones the first
-abbrev pub lesser : Least → ℕ → Option Least → Least
-lesser l passed None = l
-lesser l passed (Some later) = cond (ltb later.item l.item) (record later { before = later.before + passed }) l
-
--- a published tree is the lesser one of a tree that was found and of those of a list that stands behind so many
-pub record IsLesser (w : World) (found : LeastTree) (passed list : ℕ) (t : LeastTree) : Type 0 where
-  pub there : recs w t.tree.place.0 ≡ Some (tree_record t.tree)
-  pub low : (bound : ℕ) → found.tree.place.0 < bound → list < bound → t.tree.place.0 < bound
-  pub is : found_at w t ≡ lesser (found_at w found) passed (least_of (forest (recs w) list))
-  pub early : found.before ≤ found.tree.rank → t.before ≤ t.tree.rank
-
 -- what asks the list without the tree behind so many
 pub record MayDrop (v : View) (run : Span) (list before : ℕ) : Type 0 where
   pub held : IsInHand v.hand run

@@ -4,8 +4,7 @@ ghost use Rattle.heap_store.specs.World.{recs};
 ghost use Rattle.heap_store.specs.View.{Quiet};
 ghost use Rattle.heap_store.specs.Forest.{forest, is_trees_only, ranks_rise};
 ghost use Rattle.binom_heap.specs.Laying.{Laid};
-ghost use Rattle.binom_heap.specs.Trees.{tree_record};
-ghost use Rattle.binom_heap.specs.Removal.{least_of, without_tree, turned, tree_count, IsLeast, IsLesser, MayDrop, MayTurn};
+ghost use Rattle.binom_heap.specs.Removal.{least_of, without_tree, turned, tree_count, IsLeast, MayDrop, MayTurn};
 
 use crate::trees::{BinomialTree, first_tree, put_first};
 use heap_store::{Heap, Run};
@@ -25,16 +24,25 @@ pub(crate) fn least_tree<H: Heap>(h: &mut H, list: Ref) -> Option<LeastTree>
     ensures quiet { Quiet (H.view h.old) (H.view h.new) }
     ensures least { IsLeast (H.view h.new).seen list.0 (least_of (forest (recs (H.view h.new).seen) list.0)) result }
 {
-    match first_tree(h, list) {
-        Some(first) => {
-            let found = LeastTree {
-                before: 0,
-                tree: first.tree,
-            };
-            Some(lesser_tree(h, found, 1, first.rest))
-        }
-        None => None,
+    let Some(first) = first_tree(h, list) else {
+        return None;
+    };
+    let mut least = LeastTree {
+        before: 0,
+        tree: first.tree,
+    };
+    let mut passed = 1;
+    let mut rest = first.rest;
+    while let Some(next) = first_tree(h, rest) {
+        let here = LeastTree {
+            before: passed,
+            tree: next.tree,
+        };
+        least = lesser(least, here);
+        passed += 1;
+        rest = next.rest;
     }
+    Some(least)
 }
 
 /// Of two trees the one with the lesser root, of equal ones the first.
@@ -47,25 +55,6 @@ fn lesser(first: LeastTree, later: LeastTree) -> LeastTree
     } else {
         first
     }
-}
-
-/// Of a tree that was found and the trees of a list, which stand behind so many, the first one with the least root.
-fn lesser_tree<H: Heap>(h: &mut H, found: LeastTree, passed: u32, list: Ref) -> LeastTree
-    requires trees { is_trees_only (recs (H.view h.old).seen) list.0 ≡ true }
-    requires rise { ranks_rise passed (forest (recs (H.view h.old).seen) list.0) ≡ true }
-    requires there { recs (H.view h.old).seen found.tree.place.0 ≡ Some (tree_record found.tree) }
-    ensures quiet { Quiet (H.view h.old) (H.view h.new) }
-    ensures lesser { IsLesser (H.view h.new).seen found passed list.0 result }
-{
-    let Some(first) = first_tree(h, list) else {
-        return found;
-    };
-    let here = LeastTree {
-        before: passed,
-        tree: first.tree,
-    };
-    let best = lesser(found, here);
-    lesser_tree(h, best, passed + 1, first.rest)
 }
 
 /// The list without the tree behind so many others, which are put again in front of what follows it. It takes so many places.

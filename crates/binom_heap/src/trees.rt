@@ -45,6 +45,7 @@ pub struct FirstTree {
 }
 
 /// The first tree of a list, if it has one.
+#[inline(always)]
 pub(crate) fn first_tree<H: Heap>(h: &mut H, list: Ref) -> Option<FirstTree>
     requires { is_trees_only (recs (H.view h.old).seen) list.0 ≡ true }
     ensures quiet { Quiet (H.view h.old) (H.view h.new) }
