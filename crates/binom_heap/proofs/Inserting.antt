@@ -10,7 +10,7 @@ use Rattle.binom_heap.specs.declared.trees.BinomialTree.{BinomialTree}
 use Rattle.binom_heap.specs.declared.trees.FirstTree.{FirstTree}
 use Rattle.binom_heap.specs.Trees.{IsFirst, linked_kids, trees_met}
 use Rattle.binom_heap.specs.Laying.{MayPrecede, MayInsert, MayLink, Linked, Laid}
-use Rattle.binom_heap.proofs.FirstTrees.{FirstIs, tree_before, first_is}
+use Rattle.binom_heap.proofs.FirstTrees.{FirstIs, tree_before, first_is, first_up}
 use Rattle.binom_heap.proofs.RunLaws.{quiet_puts, puts_trans}
 use Rattle.binom_heap.proofs.Linking.{forest_up, kids_up, tree_up, list_up}
 
@@ -139,3 +139,33 @@ insert_after {v} {new} {last} {run} {run'} {run2} {t} {linked} {list} {place} {f
     let puts = puts_trans l.puts d.puts in
     let count : 2 + (2 * trees_met linked.rank (forest (recs new.seen) f.rest.0) + 1) ≡ 2 * trees_met t.rank (forest (recs v.seen) list) + 1 = omega (arith, m.met, met) in
     record { puts = rw count at puts; list = d.list; forest_is = d.forest_is ∙ added }
+
+-- ---- a tree that goes on through a list
+
+-- the list that the insert of a tree lays
+abbrev pub Inserted : View → Span → BinomialTree → ℕ → View → Span → ℕ → Type 0
+Inserted v run t list last after place = Laid v last run after (2 * trees_met t.rank (forest (recs v.seen) list) + 1) place (add_tree t.rank t.item.0 (forest (recs v.seen) t.kids.0) (forest (recs v.seen) list))
+
+-- the tree that was linked so far goes on into what is left of the list, and what that lays is laid by the first tree and the
+-- whole list
+pub record IsInserting (v now : View) (run then : Span) (t sum : BinomialTree) (list rest : ℕ) : Type 0 where
+  pub asks : MayInsert now then sum rest
+  pub lays : (last : View) (after : Span) (place : ℕ) → Inserted now then sum rest last after place → Inserted v run t list last after place
+
+pub inserting_first : {v : View} {run : Span} {t : BinomialTree} {list : ℕ} → MayInsert v run t list → IsInserting v v run run t t list list
+inserting_first k = record { asks = k; lays = λ last after place d. d }
+
+-- one link more
+pub inserting_next : {v now seen new : View} {run then then' : Span} {t sum linked : BinomialTree} {list rest : ℕ} {f : FirstTree} → IsInserting v now run then t sum list rest → IsLawful now.seen → Quiet now seen → IsLawful seen.seen → IsFirst now.seen rest f → f.tree.rank ≡ sum.rank → Linked seen new then then' sum f.tree linked → IsInserting v new run then' t linked list f.rest.0
+inserting_next {v} {now} {seen} {new} {run} {then} {then'} {t} {sum} {linked} {list} {rest} {f} k law q law' i same l =
+    let asks = ask_quiet law q k.asks in
+    let first = first_up q.grows i in
+    record {
+      asks = insert_rest law' asks first same l;
+      lays = λ last after place d. k.lays last after place (insert_same law q k.asks (insert_after law' asks first same l d));
+    }
+
+-- the end
+pub inserting_end : {v now seen new : View} {run then after : Span} {t sum : BinomialTree} {list rest place : ℕ} → IsInserting v now run then t sum list rest → IsLawful now.seen → Quiet now seen → trees_met sum.rank (forest (recs now.seen) rest) ≡ 0
+    → Laid seen new then after 1 place (tree_before (forest (recs seen.seen)) sum (forest (recs seen.seen) rest)) → Inserted v run t list new after place
+inserting_end {new = new} {after = after} {place = place} k law q none d = k.lays new after place (insert_end law q k.asks none d)

@@ -96,3 +96,19 @@ trailing_few n = omega (arith, trailing_most n, ones_most n, bits_most n)
 
 pub few_ones : (n : ℕ) → ones n ≤ 64
 few_ones n = omega (arith, ones_most n, bits_most n)
+
+-- ---- rank by rank
+
+-- a rank that both lists reach
+pub places_next : (n m : ℕ) → n < 2 ^ 32 → 0 < n → 0 < m → merge_places_of n m ≡ merge_places_of (n / 2) (m / 2) + rank_places (n % 2 + m % 2) (n / 2 + m / 2)
+places_next n m low p q = places_step n m low ∙ step_some n m (merge_places_of (n / 2) (m / 2)) p q
+
+-- no rank of a list is left
+pub places_end1 : (m : ℕ) → merge_places_of 0 m ≡ 0
+places_end1 m = places_step 0 m (omega arith) ∙ step_none1 0 m (merge_places_of (0 / 2) (m / 2)) refl
+
+pub places_end2 : (n : ℕ) → n < 2 ^ 32 → merge_places_of n 0 ≡ 0
+places_end2 n low = places_step n 0 low ∙ step_none2 n 0 (merge_places_of (n / 2) (0 / 2)) refl
+
+pub all_few : (n m : ℕ) → n < 2 ^ 32 → m < 2 ^ 32 → merge_places_of n m ≤ 384
+all_few n m low low' = omega (arith, places_few n m low (omega (arith, low, low')), few_ones n, few_ones m)

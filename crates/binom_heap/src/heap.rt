@@ -57,6 +57,7 @@ pub(crate) fn read_top<H: Heap>(h: &mut H, root: Ref) -> Top
 }
 
 /// Publishes a top, in the last place of a run. It spends a credit for each unit that the top shows first.
+#[inline(always)]
 pub(crate) fn put_top<H: Heap>(h: &mut H, top: Top, run: &mut Run) -> Ref
     requires top { IsNewTop (H.view h.old).seen top run.old.next }
     requires held { IsInHand (H.view h.old).hand run.old }
@@ -89,6 +90,7 @@ pub(crate) fn owed_after(owed: u8, size: u32) -> u8
 
 /// Publishes the top of two heaps that are melded: of their suspended merge, which owes nothing, or where one is empty the
 /// other's top once more. It spends at most a credit for each tree of both, one, and what both owe.
+#[inline(always)]
 pub(crate) fn put_meld<H: Heap>(h: &mut H, first: Top, second: Top, run: &mut Run) -> Ref
     requires { MayMeld (H.view h.old) run.old first second }
     ensures { Melded (H.view h.old) (H.view h.new) run.old run.new first second result.0 }

@@ -124,23 +124,43 @@ fn put_under<H: Heap>(
     }
 }
 
+/// The first tree of a list, if it has one and of this rank.
+#[inline(always)]
+fn first_of_rank<H: Heap>(h: &mut H, list: Ref, rank: u8) -> Option<FirstTree>
+    requires { is_trees_only (recs (H.view h.old).seen) list.0 ≡ true }
+    ensures quiet { Quiet (H.view h.old) (H.view h.new) }
+    ensures none { result ≡ None → trees_met rank (forest (recs (H.view h.old).seen) list.0) ≡ 0 }
+    ensures some { IfSome result (λ f. IsFirst (H.view h.old).seen list.0 f) }
+    ensures rank { IfSome result (λ f. f.tree.rank ≡ rank) }
+{
+    let Some(first) = first_tree(h, list) else {
+        return None;
+    };
+    if first.tree.rank == rank {
+        Some(first)
+    } else {
+        None
+    }
+}
+
 /// Inserts a tree into a list whose ranks rise from the tree's on: while the list begins with a tree of equal rank, it is linked
 /// with it, as a carry in binary numbers. It takes two places for each link, and one.
+#[inline(always)]
 pub(crate) fn insert_tree<H: Heap>(h: &mut H, tree: BinomialTree, list: Ref, run: &mut Run) -> Ref
     requires { MayInsert (H.view h.old) run.old tree list.0 }
     ensures { Laid (H.view h.old) (H.view h.new) run.old run.new (2 * trees_met tree.rank (forest (recs (H.view h.old).seen) list.0) + 1) result.0 (add_tree tree.rank tree.item.0 (forest (recs (H.view h.old).seen) tree.kids.0) (forest (recs (H.view h.old).seen) list.0)) }
 {
-    let Some(first) = first_tree(h, list) else {
-        return put_first(h, tree, list, run);
-    };
-    if first.tree.rank != tree.rank {
-        return put_first(h, tree, list, run);
+    let mut sum = tree;
+    let mut rest = list;
+    while let Some(first) = first_of_rank(h, rest, sum.rank) {
+        sum = link(h, sum, first.tree, run);
+        rest = first.rest;
     }
-    let linked = link(h, tree, first.tree, run);
-    insert_tree(h, linked, first.rest, run)
+    put_first(h, sum, rest, run)
 }
 
 /// A tree in front of a list.
+#[inline(always)]
 pub(crate) fn put_first<H: Heap>(h: &mut H, tree: BinomialTree, list: Ref, run: &mut Run) -> Ref
     requires { MayPrecede (H.view h.old) run.old tree list.0 }
     ensures { Laid (H.view h.old) (H.view h.new) run.old run.new 1 result.0 (a_tree tree.rank tree.item.0 (forest (recs (H.view h.old).seen) tree.kids.0) (forest (recs (H.view h.old).seen) list.0)) }
