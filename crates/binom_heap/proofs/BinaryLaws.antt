@@ -16,7 +16,7 @@ first_digit : (k n : ℕ) → 0 < n → digits (suc k) n ≡ eqb (n % 2) 1 ∷ d
 first_digit k zero h = absurd (omega (arith, h))
 first_digit k (suc n) h = refl
 
-binary_half : (n : ℕ) → 0 < n → n < 2 ^ 64 → binary n ≡ eqb (n % 2) 1 ∷ binary (n / 2)
+pub binary_half : (n : ℕ) → 0 < n → n < 2 ^ 64 → binary n ≡ eqb (n % 2) 1 ∷ binary (n / 2)
 unfolding binary
 binary_half n pos h = first_digit 63 n pos ∙ ap (λ ds. eqb (n % 2) 1 ∷ ds) (sym (digits_more 63 (n / 2) (omega (arith, two-pow-succ 63))))
 

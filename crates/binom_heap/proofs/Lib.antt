@@ -9,6 +9,7 @@ pub mod Inserting
 pub mod ForestLaws
 pub mod Merging
 pub mod PlacesLaws
+pub mod MergeCounts
 pub mod ShapeLaws
 pub mod ListUnits
 pub mod PaidWork

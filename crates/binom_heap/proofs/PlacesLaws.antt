@@ -1,26 +1,15 @@
 -- The places of a merge by the sizes of its lists.
-use Rattle.std.proofs.Common.{◌≡◌, ℕ, zero, suc, ◌+◌, ◌*◌, ◌/◌, ◌%◌, ◌^◌, ◌<◌, ◌≤◌, eqb, refl, sym, ap, ◌∙◌, arith, cond, ◌||◌}
+use Rattle.std.proofs.Common.{◌≡◌, ℕ, zero, suc, ◌+◌, ◌*◌, ◌/◌, ◌%◌, ◌^◌, ◌<◌, ◌≤◌, eqb, refl, ◌∙◌, arith, cond, ◌||◌}
 use Rattle.std.proofs.lemmas.Bool.{or_left, or_right, eq-eqb, ne_eqb, cond-true}
 use Rattle.std.proofs.Math.Nat.{two-pow-succ}
 use Rattle.lazy_rec.specs.Numbers.{ones, trailing_ones}
 use Rattle.binom_heap.specs.Work.{rank_places, places_by_ranks, merge_places_of}
 use Rattle.binom_heap.proofs.BinaryLaws.{Halved, none, even, odd, halved, ones_even, ones_odd, ones_next, ones_most, bits_most, trailing_most}
 
--- ---- one rank more than the sizes need
+-- ---- what a rank adds
 
 abbrev pub rank_step : ℕ → ℕ → ℕ → ℕ
 rank_step n m more = cond (eqb n 0 || eqb m 0) 0 (more + rank_places (n % 2 + m % 2) (n / 2 + m / 2))
-
-ranks_more : (k n m : ℕ) → n < 2 ^ k → places_by_ranks (suc k) n m ≡ places_by_ranks k n m
-ranks_more zero n m h = let e : n ≡ 0 = omega arith in rw e refl
-ranks_more (suc k) n m h = ap (rank_step n m) (ranks_more k (n / 2) (m / 2) (omega (arith, h, two-pow-succ k)))
-
-ranks_step : (k n m : ℕ) → n < 2 ^ suc k → places_by_ranks (suc k) n m ≡ rank_step n m (places_by_ranks (suc k) (n / 2) (m / 2))
-ranks_step k n m h = ap (rank_step n m) (sym (ranks_more k (n / 2) (m / 2) (omega (arith, h, two-pow-succ k))))
-
-pub places_step : (n m : ℕ) → n < 2 ^ 32 → merge_places_of n m ≡ rank_step n m (merge_places_of (n / 2) (m / 2))
-unfolding merge_places_of
-places_step n m h = ranks_step 31 n m h
 
 -- ---- by the digits of both sizes
 
@@ -36,16 +25,16 @@ step_some n m more p q =
     let b = ne_eqb m 0 (λ e. omega (arith, e, q)) in
     rw (a, b) refl
 
-even_half : (q : ℕ) → 2 * q / 2 ≡ q
+pub even_half : (q : ℕ) → 2 * q / 2 ≡ q
 even_half q = omega arith
 
-even_rest : (q : ℕ) → 2 * q % 2 ≡ 0
+pub even_rest : (q : ℕ) → 2 * q % 2 ≡ 0
 even_rest q = omega arith
 
-odd_half : (q : ℕ) → (2 * q + 1) / 2 ≡ q
+pub odd_half : (q : ℕ) → (2 * q + 1) / 2 ≡ q
 odd_half q = omega arith
 
-odd_rest : (q : ℕ) → (2 * q + 1) % 2 ≡ 1
+pub odd_rest : (q : ℕ) → (2 * q + 1) % 2 ≡ 1
 odd_rest q = omega arith
 
 pub step_even_even : (p q more : ℕ) → 0 < p → 0 < q → rank_step (2 * p) (2 * q) more ≡ more
@@ -96,19 +85,3 @@ trailing_few n = omega (arith, trailing_most n, ones_most n, bits_most n)
 
 pub few_ones : (n : ℕ) → ones n ≤ 64
 few_ones n = omega (arith, ones_most n, bits_most n)
-
--- ---- rank by rank
-
--- a rank that both lists reach
-pub places_next : (n m : ℕ) → n < 2 ^ 32 → 0 < n → 0 < m → merge_places_of n m ≡ merge_places_of (n / 2) (m / 2) + rank_places (n % 2 + m % 2) (n / 2 + m / 2)
-places_next n m low p q = places_step n m low ∙ step_some n m (merge_places_of (n / 2) (m / 2)) p q
-
--- no rank of a list is left
-pub places_end1 : (m : ℕ) → merge_places_of 0 m ≡ 0
-places_end1 m = places_step 0 m (omega arith) ∙ step_none1 0 m (merge_places_of (0 / 2) (m / 2)) refl
-
-pub places_end2 : (n : ℕ) → n < 2 ^ 32 → merge_places_of n 0 ≡ 0
-places_end2 n low = places_step n 0 low ∙ step_none2 n 0 (merge_places_of (n / 2) (0 / 2)) refl
-
-pub all_few : (n m : ℕ) → n < 2 ^ 32 → m < 2 ^ 32 → merge_places_of n m ≤ 384
-all_few n m low low' = omega (arith, places_few n m low (omega (arith, low, low')), few_ones n, few_ones m)

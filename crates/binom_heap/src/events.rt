@@ -206,7 +206,8 @@ fn paid_places<H: Heap>(h: &mut H, op: Op, size: u32, trees: Ref) -> u32
     }
 }
 
-/// The places of a delmin's second stage.
+/// The places of a delmin's second stage. A call, as `start_places` is.
+#[inline(never)]
 fn removal_places<H: Heap>(h: &mut H, size: u32, trees: Ref) -> u32
     requires trees { is_trees_only (recs (H.view h.old).seen) trees.0 ≡ true }
     requires rise { ranks_rise 0 (forest (recs (H.view h.old).seen) trees.0) ≡ true }
