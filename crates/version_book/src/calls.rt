@@ -12,7 +12,7 @@ ghost use Rattle.version_book.specs.Calls.{HasDrawn, MayExtend, Called, Ended, I
 
 use crate::answers::{Entry, Look, Refuse, Tally, Ticket};
 use crate::lookups::look;
-use crate::one_event::{run, run_as, start_new};
+use crate::one_event::{event_of_call, run, start_new};
 use crate::pass::BookPass;
 use crate::row_steps;
 use heap_store::{EventJob, Heap, Rows, Stage, Version};
@@ -83,8 +83,9 @@ impl<R: Rows> BookPass<R> {
     {
         let Ticket { name, caller: _ } = ticket;
         let job = first_stage(op, base, other, arg);
+        let event = event_of_call(&job);
         let unused = &mut self.stack;
-        run(&mut self.heap, unused, self.caller, name, &job)
+        run(&mut self.heap, unused, self.caller, name, &event, &job)
     }
 
     /// Begins and ends an event, and forces what it needs, on a heap that no other thread works on. It always returns.
@@ -106,7 +107,15 @@ impl<R: Rows> BookPass<R> {
     {
         let Ticket { name, caller: _ } = ticket;
         let job = first_stage(op, base, other, arg);
-        run(&mut self.heap, &mut self.stack, self.caller, name, &job)
+        let event = event_of_call(&job);
+        run(
+            &mut self.heap,
+            &mut self.stack,
+            self.caller,
+            name,
+            &event,
+            &job,
+        )
     }
 
     /// The same for an event that is at hand, on the versions that it names.
@@ -125,7 +134,7 @@ impl<R: Rows> BookPass<R> {
     {
         let Ticket { name, caller: _ } = ticket;
         let job = first_stage(event.op, base, other, event.arg);
-        run_as(
+        run(
             &mut self.heap,
             &mut self.stack,
             self.caller,

@@ -26,7 +26,7 @@ fn argument(job: &EventJob) -> u64
 }
 
 /// The event of a call: 0 stands in the fields that the operation doesn't use.
-fn event_of_call(job: &EventJob) -> Event
+pub(crate) fn event_of_call(job: &EventJob) -> Event
     ensures is { result ≡ event_of_call job.now.op job.now.base job.now.other job.now.arg }
     ensures small { job.now.arg < 2 ^ 64 }
 {
@@ -43,7 +43,7 @@ fn event_of_call(job: &EventJob) -> Event
 }
 
 /// Begins and ends an event, which is that of a job, in the way in which it is forced.
-pub(crate) fn run_as<R: Rows, F: Forces>(
+pub(crate) fn run<R: Rows, F: Forces>(
     heap: &mut R,
     forces: &mut F,
     caller: u32,
@@ -69,31 +69,6 @@ pub(crate) fn run_as<R: Rows, F: Forces>(
     begin(heap, caller, name, event);
     let made = work(heap, forces, job);
     finish(heap, name, job.base.kind, made)
-}
-
-/// Begins and ends the event of a job.
-pub(crate) fn run<R: Rows, F: Forces>(
-    heap: &mut R,
-    forces: &mut F,
-    caller: u32,
-    name: u32,
-    job: &EventJob,
-) -> Result<Entry, Refuse>
-    requires idle { IsIdle (R.view heap.old) }
-    requires caller { IsCaller (R.view heap.old) caller }
-    requires may { MayExtend (pass_of (R.view heap.old) caller) name job.now.op job.now.base job.now.other job.now.arg }
-    requires start { job.now.stage ≡ Start }
-    requires serves { may_force job.now.base.kind job.now.op ≡ true → F.serves forces.old (R.view heap.old).about ≡ true }
-    ensures idle { IsIdle (R.view heap.new) }
-    ensures caller { IsCaller (R.view heap.new) caller }
-    ensures ended { Ended (pass_of (R.view heap.old) caller) (pass_of (R.view heap.new) caller) name (event_of_call job.now.op job.now.base job.now.other job.now.arg) result }
-    ensures known { IfOk result (λ entry. IsKnown (pass_of (R.view heap.new) caller) entry) }
-    ensures outcome { IfOk result (λ entry. IsOutcome (pass_of (R.view heap.old) caller) (pass_of (R.view heap.new) caller) job.now.op job.now.base job.now.other job.now.arg entry) }
-    ensures memory { IfErr result (λ refuse. refuse ≡ Refuse.NoMemory → may_force job.now.base.kind job.now.op ≡ true) }
-    ensures same { (about : About) → F.serves forces.new about ≡ F.serves forces.old about }
-{
-    let event = event_of_call(job);
-    run_as(heap, forces, caller, name, &event, job)
 }
 
 /// Begins and ends `new`.

@@ -7,4 +7,4 @@ pub invariant_of-self : goal.invariant_of-self
 invariant_of-self g c =
     let about = (g.R.Heap.view c.self.inside.heap).about in
     let alone = ap (λ (p : Pass). p.view.about.alone) c.self.view_is ∙ c.requires.alone in
-    (c.run_as.ensures.idle, c.run_as.ensures.caller, still_empty c.self.inside.stack c.run_as.new.forces about (c.run_as.ensures.same about) alone c.self.invariant.2)
+    (c.run.ensures.idle, c.run.ensures.caller, still_empty c.self.inside.stack c.run.new.forces about (c.run.ensures.same about) alone c.self.invariant.2)

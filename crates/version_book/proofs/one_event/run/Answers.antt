@@ -14,8 +14,8 @@ use Rattle.version_book.proofs.Begins.{begun_working}
 use Rattle.version_book.proofs.EventJobs.{job, may_begin, job_begun, means_begun, direct_begun}
 use Rattle.version_book.proofs.Called.{CameOut, came_grows, drawn_name, may_end, last_grows, ended_here, called_idle, called_caller, called, ended_so}
 use Rattle.version_book.proofs.Entries.{name_low, known_made, work_came, work_answer, outcome_made, at_first}
-use Rattle.version_book.proofs.one_event.run_as.Goals as goal
-use Rattle.version_book.proofs.one_event.run_as.Goals.{After-begin, After-work-made, After-finish}
+use Rattle.version_book.proofs.one_event.run.Goals as goal
+use Rattle.version_book.proofs.one_event.run.Goals.{After-begin, After-work-made, After-finish}
 
 begun : (g : _) (c : After-begin g) → Begun (g.R.Heap.view c.args.heap.now) (g.R.Heap.view c.begin.new.heap) c.args.caller c.args.name (event_of_call c.args.job.now.op c.args.job.now.base c.args.job.now.other c.args.job.now.arg)
 begun g c = subst (λ (e : Event). Begun (g.R.Heap.view c.args.heap.now) (g.R.Heap.view c.begin.new.heap) c.args.caller c.args.name e) c.requires.event c.begin.ensures
