@@ -9,12 +9,10 @@ ghost use Rattle.kind_table.specs.Kinds.{is_built};
 ghost use Rattle.version_book.specs.Calls.{HasSeen};
 ghost use Rattle.version_book.specs.Solo.{IsSolo};
 
-use crate::built::first_unbuilt;
+use crate::test_scripts::script_of;
 use force_engine::Stack;
 use heap_store::{PlainHeap, Version};
-use lazy_rec::limits::MOST_SCRIPT_BYTES;
 use lazy_rec::{Kind, Op, Reply};
-use script_text::read_script;
 use std::alloc::Global;
 use std::test::Fail;
 use version_book::{BookPass, Closed, Ended, Entry, Refuse, solo_book};
@@ -137,15 +135,8 @@ const BOOKS: [(u32, &str, &[Answer]); 4] = [
 fn book_of(alloc: Global, nodes: u32, text: &str) -> Result<Closed, Fail>
     requires { nodes ≤ MOST_NODES }
 {
-    let bytes = text.as_bytes();
-    if bytes.len() > MOST_SCRIPT_BYTES as usize {
-        return Err(Fail::new("a long script"));
-    }
-    let script = read_script(alloc, bytes)?;
-    match first_unbuilt(&script) {
-        None => Ok(solo_book(alloc, nodes, script.events())?),
-        Some(_) => Err(Fail::new("an event that isn't built")),
-    }
+    let script = script_of(alloc, text)?;
+    Ok(solo_book(alloc, nodes, script.events())?)
 }
 
 #[test]

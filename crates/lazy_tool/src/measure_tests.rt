@@ -5,14 +5,12 @@ ghost use Rattle.heap_store.specs.World.{recs, holds};
 ghost use Rattle.heap_store.specs.Opened.{view_of};
 ghost use Rattle.finger_level.specs.Reads.{is_tree_rec};
 
-use crate::built::first_unbuilt;
 use crate::store_tests::on_plain;
+use crate::test_scripts::script_of;
 use finger_level::{Cached, Weight, measured_tree};
 use heap_store::PlainHeap;
-use lazy_rec::limits::MOST_SCRIPT_BYTES;
 use lazy_rec::{Item, Rec, Ref};
 use measures::{Greatest, LastKey, Size};
-use script_text::read_script;
 use std::alloc::Global;
 use std::test::Fail;
 
@@ -47,15 +45,8 @@ fn weights(rt: HostRuntime) {
 fn store_of(alloc: Global, nodes: u32, text: &str) -> Result<PlainHeap, Fail>
     requires { nodes ≤ MOST_NODES }
 {
-    let bytes = text.as_bytes();
-    if bytes.len() > MOST_SCRIPT_BYTES as usize {
-        return Err(Fail::new("a long script"));
-    }
-    let script = read_script(alloc, bytes)?;
-    match first_unbuilt(&script) {
-        None => Ok(on_plain(alloc, nodes, script.events())?),
-        Some(_) => Err(Fail::new("an event that isn't built")),
-    }
+    let script = script_of(alloc, text)?;
+    Ok(on_plain(alloc, nodes, script.events())?)
 }
 
 /// Whether a place has a tree's value.

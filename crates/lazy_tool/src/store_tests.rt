@@ -7,12 +7,10 @@ ghost use Rattle.heap_store.specs.Opened.{view_of};
 ghost use Rattle.kind_table.specs.Kinds.{AreBuilt};
 ghost use Rattle.word_store.specs.Stores.{IsOpened, store_id};
 
-use crate::built::first_unbuilt;
+use crate::test_scripts::script_of;
 use force_engine::Stack;
 use heap_store::PlainHeap;
-use lazy_rec::limits::MOST_SCRIPT_BYTES;
 use lazy_rec::{Event, NoMemory, Ref, SuspState};
-use script_text::read_script;
 use std::alloc::Global;
 use std::marker::Brand;
 use std::process::Abort;
@@ -131,19 +129,10 @@ fn on_both<R: Abort>(
 ) -> Result<(), Fail>
     requires { nodes ≤ MOST_NODES }
 {
-    let bytes = text.as_bytes();
-    if bytes.len() > MOST_SCRIPT_BYTES as usize {
-        return Err(Fail::new("a long script"));
-    }
-    let script = read_script(alloc, bytes)?;
-    match first_unbuilt(&script) {
-        None => {
-            let events = script.events();
-            let store = Store::open(alloc, nodes, events.len() as u32, 1)?;
-            compared::<Brand, _>(rt, alloc, nodes, events, store, expected)
-        }
-        Some(_) => Err(Fail::new("an event that isn't built")),
-    }
+    let script = script_of(alloc, text)?;
+    let events = script.events();
+    let store = Store::open(alloc, nodes, events.len() as u32, 1)?;
+    compared::<Brand, _>(rt, alloc, nodes, events, store, expected)
 }
 
 #[test]
