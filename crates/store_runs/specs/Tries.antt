@@ -57,7 +57,8 @@ pub record HasCompleted (v w : World) (s : ℕ) (a b : Share) : Type 0 where
 abbrev pub CountsOne : World → World → ℕ → Share → Share → Type 0
 CountsOne v w s a b = (b ≡ a) ⊎ HasCompleted v w s a b
 
--- what a share has counted since it was `a` and the world `v`: the suspensions that its caller has completed since, each once
+-- what a share has counted since it was `a` and the world `v`: suspensions that became done since, each once. Who completed them
+-- the world doesn't keep
 pub record IsShare (v w : World) (a b : Share) : Type 0 where
   pub places : List ℕ
   pub once : all_distinct places ≡ true

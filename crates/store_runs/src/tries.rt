@@ -17,7 +17,8 @@ use lazy_rec::{Op, Ref};
 use std::thread;
 use version_book::{Look, look};
 
-/// How many suspensions a caller has completed, and the steps that they took: each call that is handed it says which it has counted.
+/// How many suspensions a caller has counted, and the steps that they took. Each call that is handed it says which it has counted:
+/// suspensions that became done since it began, each once. Who completed them the world doesn't keep.
 #[derive(Clone, Copy, Debug, PartialEq, Eq)]
 pub struct Share {
     pub forced: u32,

@@ -120,7 +120,7 @@ pub record IsKept (k : Size) (s : State ℕ Sight) : Type 0 where
   pub full : 0 < sum_by (λ (v : Sight). v.wasted) s.views → k.nodes < slice_index s.words 0
   -- something was added in vain only where the store is smaller than what its begun events may take
   pub short : 0 < sum_by (λ (v : Sight). v.wasted) s.views → k.nodes < room_of (shows k s.words)
-  -- what was added in vain stands in the hand of its caller, or in a full row
+  -- what was added in vain is what hands have of it, and what some full rows wanted
   pub vain_rows : List ℕ
   pub told : AreTold (shows k s.words) (sum_by (λ (v : Sight). v.wasted) s.views) (sum_by (λ (v : Sight). added v.hand.vain) s.views) vain_rows
   -- each caller draws a name in vain at most once

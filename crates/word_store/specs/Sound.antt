@@ -23,7 +23,8 @@ pub record IsAlone (v : Sight) : Type 0 where
   pub budget : IsInBudget (record { world = seen_by v; hands = v.hand ∷ []; plan = v.plan })
 
 -- the seat of all callers has all that is given, claimed and named, the budget is kept with its hand alone, and it has added in
--- vain only where the store is smaller than what its begun events may take. Full rows tell of that, but for what is in its hand
+-- vain only where the store is smaller than what its begun events may take. What was added in vain is what its hand has of it, and
+-- what some full rows wanted
 pub record IsWhole (v : Sight) : Type 0 where
   pub drawn : published_count (seen_by v) + length v.hand.reserved + v.wasted ≡ fixed_places + slice_index v.words 0
   pub claims : (s : ℕ) → is_claimed_at (seen_by v) s ≡ true → holds_claim v.hand s ≡ true
