@@ -42,16 +42,29 @@ fn extended(
     pass.call(ticket, op, base, base, arg)
 }
 
+/// A queue of three items, on a pass that works alone.
+fn three_items(pass: &mut BookPass<PlainHeap>) -> Result<Version, Refuse>
+    requires solo { IsSolo pass.old }
+    requires lawful { IsLawfulView pass.old.view }
+    ensures solo { IfOk result (λ _. IsSolo pass.new) }
+    ensures lawful { IfOk result (λ _. IsLawfulView pass.new.view) }
+    ensures seen { IfOk result (λ three. HasSeen pass.new three) }
+    ensures kind { IfOk result (λ three. three.kind ≡ Bankq) }
+{
+    let ticket = pass.draw()?;
+    let empty = pass.begin_new(ticket, Kind::Bankq)?.version;
+    let one = extended(pass, Op::Snoc, empty, 5)?.version;
+    let two = extended(pass, Op::Snoc, one, 6)?.version;
+    let three = extended(pass, Op::Snoc, two, 7)?.version;
+    Ok(three)
+}
+
 /// A queue of three items, extended twice from one version; both branches are read.
 #[test]
 fn two_branches(rt: HostRuntime) -> Result<(), Fail> {
     let heap = PlainHeap::open(rt.alloc(), 1_000, 100)?;
     let mut pass = BookPass::new(heap, Stack::open(rt.alloc())?, 0);
-    let ticket = pass.draw()?;
-    let empty = pass.begin_new(ticket, Kind::Bankq)?.version;
-    let one = extended(&mut pass, Op::Snoc, empty, 5)?.version;
-    let two = extended(&mut pass, Op::Snoc, one, 6)?.version;
-    let three = extended(&mut pass, Op::Snoc, two, 7)?.version;
+    let three = three_items(&mut pass)?;
     let longer = extended(&mut pass, Op::Snoc, three, 8)?.version;
     let shorter = extended(&mut pass, Op::Tail, three, 0)?.version;
     let first = extended(&mut pass, Op::Head, longer, 0)?.reply;
