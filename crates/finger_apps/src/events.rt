@@ -133,7 +133,7 @@ fn push<H: Heap>(h: &mut H, side: Side, job: &EventJob, run: &mut Run) -> After
         size: job.base.size + 1,
         key: Item(0),
     };
-    let first = Family::First;
+    let first = &Family::First;
     let root = put_pushed(h, side, leaf, own, job.base.root, whole, first, false, run);
     After::End {
         root,
@@ -158,7 +158,7 @@ fn pop<H: Heap>(h: &mut H, side: Side, job: &EventJob, run: &mut Run) -> After
     }
     let size = job.base.size - 1;
     let whole = Weight { size, key: Item(0) };
-    let root = put_popped(h, side, job.base.root, whole, Family::First, false, run);
+    let root = put_popped(h, side, job.base.root, whole, &Family::First, false, run);
     After::End {
         root,
         size,

@@ -24,14 +24,14 @@ pub fn put_drawn<H: Heap>(
     q: Ref,
     p: Ref,
     whole: Weight,
-    family: Family,
+    family: &Family,
     keyed: bool,
     run: &mut Run,
 ) -> Ref
     requires upper { IsUpper (H.view h.old).seen q.0 }
     requires digit { holds (recs (H.view h.old).seen) p.0 is_digit_rec ≡ true }
-    requires ask { DrawnAsk (H.view h.old) run.old side q.0 p.0 family whole }
-    ensures { DrawnPut (H.view h.old) (H.view h.new) run.old run.new side q.0 p.0 family keyed whole result.0 }
+    requires ask { DrawnAsk (H.view h.old) run.old side q.0 p.0 family.now whole }
+    ensures { DrawnPut (H.view h.old) (H.view h.new) run.old run.new side q.0 p.0 family.now keyed whole result.0 }
 {
     if keyed {
         return put_made(h, side, q, p, whole, family, keyed, run);
@@ -68,14 +68,14 @@ fn put_made<H: Heap>(
     q: Ref,
     p: Ref,
     whole: Weight,
-    family: Family,
+    family: &Family,
     keyed: bool,
     run: &mut Run,
 ) -> Ref
     requires upper { IsUpper (H.view h.old).seen q.0 }
     requires digit { holds (recs (H.view h.old).seen) p.0 is_digit_rec ≡ true }
-    requires ask { DrawnAsk (H.view h.old) run.old side q.0 p.0 family whole }
-    ensures { DrawnPut (H.view h.old) (H.view h.new) run.old run.new side q.0 p.0 family keyed whole result.0 }
+    requires ask { DrawnAsk (H.view h.old) run.old side q.0 p.0 family.now whole }
+    ensures { DrawnPut (H.view h.old) (H.view h.new) run.old run.new side q.0 p.0 family.now keyed whole result.0 }
 {
     let level = drawn_level(h, side, q, p);
     put_level(h, level, whole, family, keyed, run)

@@ -28,13 +28,13 @@ pub fn put_popped<H: Heap>(
     side: Side,
     root: Ref,
     whole: Weight,
-    family: Family,
+    family: &Family,
     keyed: bool,
     run: &mut Run,
 ) -> Ref
     requires tree { IsWhole (H.view h.old).seen root.0 }
-    requires ask { PoppedAsk (H.view h.old) run.old side root.0 family whole }
-    ensures { PoppedPut (H.view h.old) (H.view h.new) run.old run.new side root.0 family keyed whole result.0 }
+    requires ask { PoppedAsk (H.view h.old) run.old side root.0 family.now whole }
+    ensures { PoppedPut (H.view h.old) (H.view h.new) run.old run.new side root.0 family.now keyed whole result.0 }
 {
     let Rec::Deep {
         left,
@@ -66,13 +66,13 @@ fn put_rest<H: Heap>(
     side: Side,
     root: Ref,
     whole: Weight,
-    family: Family,
+    family: &Family,
     keyed: bool,
     run: &mut Run,
 ) -> Ref
     requires tree { IsWhole (H.view h.old).seen root.0 }
-    requires ask { PoppedAsk (H.view h.old) run.old side root.0 family whole }
-    ensures { PoppedPut (H.view h.old) (H.view h.new) run.old run.new side root.0 family keyed whole result.0 }
+    requires ask { PoppedAsk (H.view h.old) run.old side root.0 family.now whole }
+    ensures { PoppedPut (H.view h.old) (H.view h.new) run.old run.new side root.0 family.now keyed whole result.0 }
 {
     match popped_level(h, side, root) {
         Popped::Rest { level, .. } => put_level(h, level, whole, family, keyed, run),

@@ -26,15 +26,15 @@ pub fn put_pushed<H: Heap>(
     own: Weight,
     root: Ref,
     whole: Weight,
-    family: Family,
+    family: &Family,
     keyed: bool,
     run: &mut Run,
 ) -> Ref
     requires value { holds (recs (H.view h.old).seen) root.0 is_tree_value ≡ true }
     requires element { holds (recs (H.view h.old).seen) e.0 is_element ≡ true }
     requires weight { IsWeight (H.view h.old).seen e.0 own }
-    requires ask { PushedAsk (H.view h.old) run.old side (Pushed.One e) root.0 family whole }
-    ensures { PushedPut (H.view h.old) (H.view h.new) run.old run.new side (Pushed.One e) root.0 family keyed whole result.0 }
+    requires ask { PushedAsk (H.view h.old) run.old side (Pushed.One e) root.0 family.now whole }
+    ensures { PushedPut (H.view h.old) (H.view h.new) run.old run.new side (Pushed.One e) root.0 family.now keyed whole result.0 }
 {
     let Rec::Deep {
         left,
@@ -66,14 +66,14 @@ pub fn put_pushes<H: Heap>(
     es: Pushed,
     root: Ref,
     whole: Weight,
-    family: Family,
+    family: &Family,
     keyed: bool,
     run: &mut Run,
 ) -> Ref
     requires value { holds (recs (H.view h.old).seen) root.0 is_tree_value ≡ true }
     requires elements { AllByRecursion (λ e. holds (recs (H.view h.old).seen) e is_element ≡ true) (pushed_list es) }
-    requires ask { PushedAsk (H.view h.old) run.old side es root.0 family whole }
-    ensures { PushedPut (H.view h.old) (H.view h.new) run.old run.new side es root.0 family keyed whole result.0 }
+    requires ask { PushedAsk (H.view h.old) run.old side es root.0 family.now whole }
+    ensures { PushedPut (H.view h.old) (H.view h.new) run.old run.new side es root.0 family.now keyed whole result.0 }
 {
     match es {
         Pushed::One(e) => {
@@ -92,13 +92,13 @@ fn put_whole<H: Heap>(
     es: Pushed,
     root: Ref,
     whole: Weight,
-    family: Family,
+    family: &Family,
     keyed: bool,
     run: &mut Run,
 ) -> Ref
     requires value { holds (recs (H.view h.old).seen) root.0 is_tree_value ≡ true }
-    requires ask { PushedAsk (H.view h.old) run.old side es root.0 family whole }
-    ensures { PushedPut (H.view h.old) (H.view h.new) run.old run.new side es root.0 family keyed whole result.0 }
+    requires ask { PushedAsk (H.view h.old) run.old side es root.0 family.now whole }
+    ensures { PushedPut (H.view h.old) (H.view h.new) run.old run.new side es root.0 family.now keyed whole result.0 }
 {
     let level = pushed_level(h, side, es, root);
     put_level(h, level, whole, family, keyed, run)

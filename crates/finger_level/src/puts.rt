@@ -226,12 +226,12 @@ pub(crate) fn put_push<H: Heap>(
     side: Side,
     tree: Option<Ref>,
     nodes: Nodes,
-    family: Family,
+    family: &Family,
     keyed: bool,
     run: &mut Run,
 ) -> Ref
-    requires { PushAsk (H.view h.old) run.old side tree nodes family }
-    ensures put { MiddlePut (H.view h.old) (H.view h.new) run.old run.new family (suc (nodes_places nodes)) (push_middle side tree nodes) result.0 }
+    requires { PushAsk (H.view h.old) run.old side tree nodes family.now }
+    ensures put { MiddlePut (H.view h.old) (H.view h.new) run.old run.new family.now (suc (nodes_places nodes)) (push_middle side tree nodes) result.0 }
     ensures keys { AreKeyed keyed (H.view h.old).seen (all_of (nodes_list nodes)) → AreKeyed keyed (H.view h.old).seen (if_there (tree_of tree)) → HasKeys keyed (H.view h.new).seen result.0 }
 {
     let tree = tree_or_empty(tree);
@@ -242,7 +242,7 @@ pub(crate) fn put_push<H: Heap>(
         size: above.size + below.size,
         key: Item(above.key.0.max(below.key.0)),
     };
-    match family {
+    match *family {
         Family::First => {
             let origin = run.next();
             h.put(run, suspension(side, tree, es, origin, 0, weight))
@@ -285,12 +285,12 @@ fn put_tail<H: Heap>(
     side: Side,
     tree: Ref,
     part: Digit,
-    family: Family,
+    family: &Family,
     keyed: bool,
     run: &mut Run,
 ) -> Ref
-    requires { TailAsk (H.view h.old) run.old side tree part family }
-    ensures put { MiddlePut (H.view h.old) (H.view h.new) run.old run.new family (suc (digit_places part)) (without side tree.0 (digit_list part)) result.0 }
+    requires { TailAsk (H.view h.old) run.old side tree part family.now }
+    ensures put { MiddlePut (H.view h.old) (H.view h.new) run.old run.new family.now (suc (digit_places part)) (without side tree.0 (digit_list part)) result.0 }
     ensures keys { HasKeys keyed (H.view h.old).seen tree.0 → KeyedDigit keyed (H.view h.old).seen part → HasKeys keyed (H.view h.new).seen result.0 }
 {
     let digit = put_digit(h, part, keyed, run);
@@ -312,14 +312,14 @@ pub(crate) fn put_weighed_tail<H: Heap>(
     tree: Ref,
     digit: Ref,
     weight: Weight,
-    family: Family,
+    family: &Family,
     run: &mut Run,
 ) -> Ref
-    requires { WeighedTailAsk (H.view h.old) run.old side tree digit family weight.size }
-    ensures put { MiddlePut (H.view h.old) (H.view h.new) run.old run.new family 1 (without side tree.0 (elements (H.view h.old).seen digit.0)) result.0 }
+    requires { WeighedTailAsk (H.view h.old) run.old side tree digit family.now weight.size }
+    ensures put { MiddlePut (H.view h.old) (H.view h.new) run.old run.new family.now 1 (without side tree.0 (elements (H.view h.old).seen digit.0)) result.0 }
     ensures keys { (keyed : Bool) → HasKeys keyed (H.view h.old).seen tree.0 → HasKeys keyed (H.view h.old).seen digit.0 → weight.key.0 ≡ key_in keyed (means (recs (H.view h.new).seen) result.0) → HasKeys keyed (H.view h.new).seen result.0 }
 {
-    match family {
+    match *family {
         Family::First => {
             let origin = run.next();
             h.put(run, tail(side, tree, digit, origin, 0, weight))
@@ -337,12 +337,12 @@ fn put_shorter<H: Heap>(
     left: Digit,
     tree: Ref,
     right: Digit,
-    family: Family,
+    family: &Family,
     keyed: bool,
     run: &mut Run,
 ) -> Ref
-    requires { ShorterAsk (H.view h.old) run.old side left tree right family }
-    ensures put { MiddlePut (H.view h.old) (H.view h.new) run.old run.new family (suc (digit_places left + digit_places right)) (shorter side (digit_list left) tree.0 (digit_list right)) result.0 }
+    requires { ShorterAsk (H.view h.old) run.old side left tree right family.now }
+    ensures put { MiddlePut (H.view h.old) (H.view h.new) run.old run.new family.now (suc (digit_places left + digit_places right)) (shorter side (digit_list left) tree.0 (digit_list right)) result.0 }
     ensures keys { KeyedDigit keyed (H.view h.old).seen left → HasKeys keyed (H.view h.old).seen tree.0 → KeyedDigit keyed (H.view h.old).seen right → HasKeys keyed (H.view h.new).seen result.0 }
 {
     let one = few_of(left);
@@ -439,18 +439,18 @@ fn put_between<H: Heap>(
     left: Ref,
     row: NodeRow,
     right: Ref,
-    family: Family,
+    family: &Family,
     keyed: bool,
     run: &mut Run,
 ) -> Ref
-    requires { BetweenAsk (H.view h.old) run.old left row right family }
-    ensures put { MiddlePut (H.view h.old) (H.view h.new) run.old run.new family (suc (suc (row_places row))) (between left.0 right.0 (row_list row)) result.0 }
+    requires { BetweenAsk (H.view h.old) run.old left row right family.now }
+    ensures put { MiddlePut (H.view h.old) (H.view h.new) run.old run.new family.now (suc (suc (row_places row))) (between left.0 right.0 (row_list row)) result.0 }
     ensures keys { HasKeys keyed (H.view h.old).seen left.0 → AreKeyed keyed (H.view h.old).seen (all_of (row_list row)) → HasKeys keyed (H.view h.old).seen right.0 → HasKeys keyed (H.view h.new).seen result.0 }
 {
     let es = put_row(h, row, keyed, run);
     let list = put_digit(h, Digit::New(es), keyed, run);
     let weight = weigh_between(h, left, es, right, keyed);
-    match family {
+    match *family {
         Family::First => {
             let origin = run.next();
             h.put(run, concat(left, list, right, origin, 0, weight))
@@ -465,12 +465,12 @@ fn put_between<H: Heap>(
 pub fn put_middle<H: Heap>(
     h: &mut H,
     middle: Middle,
-    family: Family,
+    family: &Family,
     keyed: bool,
     run: &mut Run,
 ) -> Ref
-    requires { MiddleAsk (H.view h.old) run.old middle family }
-    ensures put { MiddlePut (H.view h.old) (H.view h.new) run.old run.new family (middle_places middle) (middle_of middle) result.0 }
+    requires { MiddleAsk (H.view h.old) run.old middle family.now }
+    ensures put { MiddlePut (H.view h.old) (H.view h.new) run.old run.new family.now (middle_places middle) (middle_of middle) result.0 }
     ensures keys { KeyedMiddle keyed (H.view h.old).seen middle → HasKeys keyed (H.view h.new).seen result.0 }
 {
     match middle {
@@ -495,12 +495,12 @@ pub fn put_level<H: Heap>(
     h: &mut H,
     level: Level,
     whole: Weight,
-    family: Family,
+    family: &Family,
     keyed: bool,
     run: &mut Run,
 ) -> Ref
-    requires { LevelAsk (H.view h.old) run.old level family whole }
-    ensures put { LevelPut (H.view h.old) (H.view h.new) run.old run.new family level result.0 }
+    requires { LevelAsk (H.view h.old) run.old level family.now whole }
+    ensures put { LevelPut (H.view h.old) (H.view h.new) run.old run.new family.now level result.0 }
     ensures keys { KeyedLevel keyed (H.view h.old).seen level → whole.key.0 ≡ key_in keyed (items_of_made (means (recs (H.view h.old).seen)) (made_of level)) → HasKeys keyed (H.view h.new).seen result.0 }
 {
     match level {
@@ -527,12 +527,12 @@ fn put_deep<H: Heap>(
     middle: Middle,
     right: Digit,
     whole: Weight,
-    family: Family,
+    family: &Family,
     keyed: bool,
     run: &mut Run,
 ) -> Ref
-    requires { LevelAsk (H.view h.old) run.old (Level.Deep left middle right) family whole }
-    ensures put { LevelPut (H.view h.old) (H.view h.new) run.old run.new family (Level.Deep left middle right) result.0 }
+    requires { LevelAsk (H.view h.old) run.old (Level.Deep left middle right) family.now whole }
+    ensures put { LevelPut (H.view h.old) (H.view h.new) run.old run.new family.now (Level.Deep left middle right) result.0 }
     ensures keys { KeyedLevel keyed (H.view h.old).seen (Level.Deep left middle right) → whole.key.0 ≡ key_in keyed (items_of_made (means (recs (H.view h.old).seen)) (made_of (Level.Deep left middle right))) → HasKeys keyed (H.view h.new).seen result.0 }
 {
     let below = put_middle(h, middle, family, keyed, run);

@@ -90,6 +90,6 @@ pub fn build<H: Heap>(rec: &Rec, h: &mut H, s: Ref, cursor: &Cursor, run: &mut R
         origin: join.origin,
         off: join.off,
     };
-    let place = put_level(h, level, join.weight, family, join.weight.key.0 > 0, run);
+    let place = put_level(h, level, join.weight, &family, join.weight.key.0 > 0, run);
     Built { place, steps: 1 }
 }

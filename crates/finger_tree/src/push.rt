@@ -115,7 +115,7 @@ pub fn build<H: Heap>(rec: &Rec, h: &mut H, s: Ref, cursor: &Cursor, run: &mut R
                 push.es,
                 q,
                 push.weight,
-                family,
+                &family,
                 push.weight.key.0 > 0,
                 run,
             );

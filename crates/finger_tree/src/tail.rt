@@ -95,7 +95,16 @@ pub fn build<H: Heap>(rec: &Rec, h: &mut H, s: Ref, cursor: &Cursor, run: &mut R
                 off: tail.off,
             };
             let keyed = tail.weight.key.0 > 0;
-            let place = put_drawn(h, tail.side, q, tail.digit, tail.weight, family, keyed, run);
+            let place = put_drawn(
+                h,
+                tail.side,
+                q,
+                tail.digit,
+                tail.weight,
+                &family,
+                keyed,
+                run,
+            );
             Built { place, steps: 1 }
         }
         None => unreachable!(),

@@ -92,26 +92,26 @@ pub without-inner-requires : goal.without-inner-requires
 without-inner-requires g c = (sizes g (goal.at.without-inner-requires g c).After-read_weighed_node-node _ refl).from_tree
 
 -- what is left of the middle
-left : (g : _) (c : After-read_weighed_node-node g) (rest : Option Few) → c.take_end-taken.result.rest ≡ rest → (inner : ℕ) → inner ≡ c.in-Deep.size - c.read_weighed_node-node.result.weight.size → LeftAsk (g.H.Heap.view c.read_weighed_node-node.new.h) c.args.run.now c.args.side rest c.in-Deep.middle c.both_ends.result.1 c.args.family inner
+left : (g : _) (c : After-read_weighed_node-node g) (rest : Option Few) → c.take_end-taken.result.rest ≡ rest → (inner : ℕ) → inner ≡ c.in-Deep.size - c.read_weighed_node-node.result.weight.size → LeftAsk (g.H.Heap.view c.read_weighed_node-node.new.h) c.args.run.now c.args.side rest c.in-Deep.middle c.both_ends.result.1 c.args.family.now inner
 unfolding taken_here
 left g d rest is inner less =
     let n = node g d in
-    left_ask (g.met.H.Heap.lawful d.read_weighed_node-node.new.h) d.args.side d.args.q.0 d.in-Deep.left d.in-Deep.middle d.in-Deep.right d.both_ends.result.0 d.both_ends.result.1 d.take_end-taken.result.element d.args.p n.group rest d.read_weighed-digit.result.few (taken_here g d rest is) n.shown d.read_weighed_node-node.result.few n.few (digit g d) (upper g d) d.args.family d.args.whole (quiet g d) d.requires.ask inner d.read_weighed_node-node.result.weight.size n.size less
+    left_ask (g.met.H.Heap.lawful d.read_weighed_node-node.new.h) d.args.side d.args.q.0 d.in-Deep.left d.in-Deep.middle d.in-Deep.right d.both_ends.result.0 d.both_ends.result.1 d.take_end-taken.result.element d.args.p n.group rest d.read_weighed-digit.result.few (taken_here g d rest is) n.shown d.read_weighed_node-node.result.few n.few (digit g d) (upper g d) d.args.family.now d.args.whole (quiet g d) d.requires.ask inner d.read_weighed_node-node.result.weight.size n.size less
 
 -- ---- nothing else of the middle's digit
 
 pub put_weighed_tail-tail-requires : goal.put_weighed_tail-tail-requires
 put_weighed_tail-tail-requires g c =
     let d = (goal.at.put_weighed_tail-tail-requires g c).After-read_weighed_node-node in
-    tail_left_ask c.args.side c.in-Deep.middle c.both_ends.result.1 c.args.family c.without-inner.result (left g d None c.in_default-rest.is _ c.without-inner.ensures.size)
+    tail_left_ask c.args.side c.in-Deep.middle c.both_ends.result.1 c.args.family.now c.without-inner.result (left g d None c.in_default-rest.is _ c.without-inner.ensures.size)
 
 pub put_near-requires-clause-ask : goal.put_near-requires-clause-ask
 unfolding taken_here
 put_near-requires-clause-ask g c =
     let d = (goal.at.put_near-requires-clause-ask g c).After-read_weighed_node-node in
     let n = node g d in
-    let done = tail_left_put c.args.side c.in-Deep.middle c.both_ends.result.1 c.args.family c.without-inner.result (left g d None c.in_default-rest.is _ c.without-inner.ensures.size) c.put_weighed_tail-tail.ensures.put c.args.keyed c.if-keyed.false c.without-inner.ensures.bare c.put_weighed_tail-tail.ensures.keys in
-    near_over (g.met.H.Heap.lawful c.read_weighed_node-node.new.h) c.args.side c.args.q.0 c.in-Deep.left c.in-Deep.middle c.in-Deep.right c.both_ends.result.0 c.both_ends.result.1 c.take_end-taken.result.element c.args.p n.group None c.read_weighed-digit.result.few (taken_here g d None c.in_default-rest.is) n.shown c.read_weighed_node-node.result.few n.few (digit g d) (upper g d) c.args.family c.args.whole (quiet g d) c.requires.ask c.put_weighed_tail-tail.result (g.met.H.Heap.lawful c.put_weighed_tail-tail.new.h).world done
+    let done = tail_left_put c.args.side c.in-Deep.middle c.both_ends.result.1 c.args.family.now c.without-inner.result (left g d None c.in_default-rest.is _ c.without-inner.ensures.size) c.put_weighed_tail-tail.ensures.put c.args.keyed c.if-keyed.false c.without-inner.ensures.bare c.put_weighed_tail-tail.ensures.keys in
+    near_over (g.met.H.Heap.lawful c.read_weighed_node-node.new.h) c.args.side c.args.q.0 c.in-Deep.left c.in-Deep.middle c.in-Deep.right c.both_ends.result.0 c.both_ends.result.1 c.take_end-taken.result.element c.args.p n.group None c.read_weighed-digit.result.few (taken_here g d None c.in_default-rest.is) n.shown c.read_weighed_node-node.result.few n.few (digit g d) (upper g d) c.args.family.now c.args.whole (quiet g d) c.requires.ask c.put_weighed_tail-tail.result (g.met.H.Heap.lawful c.put_weighed_tail-tail.new.h).world done
 
 pub put_near-requires-clause-counts : goal.put_near-requires-clause-counts
 put_near-requires-clause-counts g c =
@@ -123,8 +123,8 @@ unfolding taken_here
 returns-in_default-rest g c =
     let d = (goal.at.returns-in_default-rest g c).After-read_weighed_node-node in
     let n = node g d in
-    let done = tail_left_put c.args.side c.in-Deep.middle c.both_ends.result.1 c.args.family c.without-inner.result (left g d None c.in_default-rest.is _ c.without-inner.ensures.size) c.put_weighed_tail-tail.ensures.put c.args.keyed c.if-keyed.false c.without-inner.ensures.bare c.put_weighed_tail-tail.ensures.keys in
-    drawn_put (g.met.H.Heap.lawful c.read_weighed_node-node.new.h) c.args.side c.args.q.0 c.in-Deep.left c.in-Deep.middle c.in-Deep.right c.both_ends.result.0 c.both_ends.result.1 c.take_end-taken.result.element c.args.p n.group None c.read_weighed-digit.result.few (taken_here g d None c.in_default-rest.is) n.shown c.read_weighed_node-node.result.few n.few (digit g d) (upper g d) c.args.family c.args.whole (quiet g d) c.requires.ask c.put_weighed_tail-tail.result (g.met.H.Heap.lawful c.put_weighed_tail-tail.new.h).world done (g.met.H.Heap.lawful c.put_near.new.h).world c.put_near.ensures.put
+    let done = tail_left_put c.args.side c.in-Deep.middle c.both_ends.result.1 c.args.family.now c.without-inner.result (left g d None c.in_default-rest.is _ c.without-inner.ensures.size) c.put_weighed_tail-tail.ensures.put c.args.keyed c.if-keyed.false c.without-inner.ensures.bare c.put_weighed_tail-tail.ensures.keys in
+    drawn_put (g.met.H.Heap.lawful c.read_weighed_node-node.new.h) c.args.side c.args.q.0 c.in-Deep.left c.in-Deep.middle c.in-Deep.right c.both_ends.result.0 c.both_ends.result.1 c.take_end-taken.result.element c.args.p n.group None c.read_weighed-digit.result.few (taken_here g d None c.in_default-rest.is) n.shown c.read_weighed_node-node.result.few n.few (digit g d) (upper g d) c.args.family.now c.args.whole (quiet g d) c.requires.ask c.put_weighed_tail-tail.result (g.met.H.Heap.lawful c.put_weighed_tail-tail.new.h).world done (g.met.H.Heap.lawful c.put_near.new.h).world c.put_near.ensures.put
     c.read_weighed_node-node.result.weight c.if-keyed.false n.bare c.put_near.ensures.keys
 
 -- ---- the rest of it
@@ -135,7 +135,7 @@ without-less-requires g c = (sizes g (goal.at.without-less-requires g c).After-r
 pub put_near-shorter-requires-clause-ask : goal.put_near-shorter-requires-clause-ask
 put_near-shorter-requires-clause-ask g c =
     let d = (goal.at.put_near-shorter-requires-clause-ask g c).After-read_weighed_node-node in
-    near_left_ask (g.met.H.Heap.lawful c.read_weighed_node-node.new.h) c.in-Some.rest c.in-Deep.middle c.both_ends.result.1 c.args.family c.args.side c.without-inner.result (left g d (Some c.in-Some.rest) c.in-Some.is _ c.without-inner.ensures.size)
+    near_left_ask (g.met.H.Heap.lawful c.read_weighed_node-node.new.h) c.in-Some.rest c.in-Deep.middle c.both_ends.result.1 c.args.family.now c.args.side c.without-inner.result (left g d (Some c.in-Some.rest) c.in-Some.is _ c.without-inner.ensures.size)
 
 pub put_near-shorter-requires-clause-counts : goal.put_near-shorter-requires-clause-counts
 put_near-shorter-requires-clause-counts g c = c.without-less.ensures.size ∙ (sizes g (goal.at.put_near-shorter-requires-clause-counts g c).After-read_weighed_node-node (Some c.in-Some.rest) c.in-Some.is).less
@@ -145,8 +145,8 @@ unfolding taken_here
 put_near-requires-2-clause-ask g c =
     let d = (goal.at.put_near-requires-2-clause-ask g c).After-read_weighed_node-node in
     let n = node g d in
-    let done = near_left_put (g.met.H.Heap.lawful c.read_weighed_node-node.new.h) c.in-Some.rest c.in-Deep.middle c.both_ends.result.1 c.args.family c.args.side c.without-inner.result (left g d (Some c.in-Some.rest) c.in-Some.is _ c.without-inner.ensures.size) (g.met.H.Heap.lawful c.put_near-shorter.new.h).world c.put_near-shorter.ensures.put c.args.keyed c.without-less.result c.if-keyed.false c.without-less.ensures.bare c.without-inner.ensures.bare c.put_near-shorter.ensures.keys in
-    near_over (g.met.H.Heap.lawful c.read_weighed_node-node.new.h) c.args.side c.args.q.0 c.in-Deep.left c.in-Deep.middle c.in-Deep.right c.both_ends.result.0 c.both_ends.result.1 c.take_end-taken.result.element c.args.p n.group (Some c.in-Some.rest) c.read_weighed-digit.result.few (taken_here g d (Some c.in-Some.rest) c.in-Some.is) n.shown c.read_weighed_node-node.result.few n.few (digit g d) (upper g d) c.args.family c.args.whole (quiet g d) c.requires.ask c.put_near-shorter.result (g.met.H.Heap.lawful c.put_near-shorter.new.h).world done
+    let done = near_left_put (g.met.H.Heap.lawful c.read_weighed_node-node.new.h) c.in-Some.rest c.in-Deep.middle c.both_ends.result.1 c.args.family.now c.args.side c.without-inner.result (left g d (Some c.in-Some.rest) c.in-Some.is _ c.without-inner.ensures.size) (g.met.H.Heap.lawful c.put_near-shorter.new.h).world c.put_near-shorter.ensures.put c.args.keyed c.without-less.result c.if-keyed.false c.without-less.ensures.bare c.without-inner.ensures.bare c.put_near-shorter.ensures.keys in
+    near_over (g.met.H.Heap.lawful c.read_weighed_node-node.new.h) c.args.side c.args.q.0 c.in-Deep.left c.in-Deep.middle c.in-Deep.right c.both_ends.result.0 c.both_ends.result.1 c.take_end-taken.result.element c.args.p n.group (Some c.in-Some.rest) c.read_weighed-digit.result.few (taken_here g d (Some c.in-Some.rest) c.in-Some.is) n.shown c.read_weighed_node-node.result.few n.few (digit g d) (upper g d) c.args.family.now c.args.whole (quiet g d) c.requires.ask c.put_near-shorter.result (g.met.H.Heap.lawful c.put_near-shorter.new.h).world done
 
 pub put_near-requires-2-clause-counts : goal.put_near-requires-2-clause-counts
 put_near-requires-2-clause-counts g c =
@@ -158,6 +158,6 @@ unfolding taken_here
 returns g c =
     let d = (goal.at.returns g c).After-read_weighed_node-node in
     let n = node g d in
-    let done = near_left_put (g.met.H.Heap.lawful c.read_weighed_node-node.new.h) c.in-Some.rest c.in-Deep.middle c.both_ends.result.1 c.args.family c.args.side c.without-inner.result (left g d (Some c.in-Some.rest) c.in-Some.is _ c.without-inner.ensures.size) (g.met.H.Heap.lawful c.put_near-shorter.new.h).world c.put_near-shorter.ensures.put c.args.keyed c.without-less.result c.if-keyed.false c.without-less.ensures.bare c.without-inner.ensures.bare c.put_near-shorter.ensures.keys in
-    drawn_put (g.met.H.Heap.lawful c.read_weighed_node-node.new.h) c.args.side c.args.q.0 c.in-Deep.left c.in-Deep.middle c.in-Deep.right c.both_ends.result.0 c.both_ends.result.1 c.take_end-taken.result.element c.args.p n.group (Some c.in-Some.rest) c.read_weighed-digit.result.few (taken_here g d (Some c.in-Some.rest) c.in-Some.is) n.shown c.read_weighed_node-node.result.few n.few (digit g d) (upper g d) c.args.family c.args.whole (quiet g d) c.requires.ask c.put_near-shorter.result (g.met.H.Heap.lawful c.put_near-shorter.new.h).world done (g.met.H.Heap.lawful c.put_near-2.new.h).world c.put_near-2.ensures.put
+    let done = near_left_put (g.met.H.Heap.lawful c.read_weighed_node-node.new.h) c.in-Some.rest c.in-Deep.middle c.both_ends.result.1 c.args.family.now c.args.side c.without-inner.result (left g d (Some c.in-Some.rest) c.in-Some.is _ c.without-inner.ensures.size) (g.met.H.Heap.lawful c.put_near-shorter.new.h).world c.put_near-shorter.ensures.put c.args.keyed c.without-less.result c.if-keyed.false c.without-less.ensures.bare c.without-inner.ensures.bare c.put_near-shorter.ensures.keys in
+    drawn_put (g.met.H.Heap.lawful c.read_weighed_node-node.new.h) c.args.side c.args.q.0 c.in-Deep.left c.in-Deep.middle c.in-Deep.right c.both_ends.result.0 c.both_ends.result.1 c.take_end-taken.result.element c.args.p n.group (Some c.in-Some.rest) c.read_weighed-digit.result.few (taken_here g d (Some c.in-Some.rest) c.in-Some.is) n.shown c.read_weighed_node-node.result.few n.few (digit g d) (upper g d) c.args.family.now c.args.whole (quiet g d) c.requires.ask c.put_near-shorter.result (g.met.H.Heap.lawful c.put_near-shorter.new.h).world done (g.met.H.Heap.lawful c.put_near-2.new.h).world c.put_near-2.ensures.put
     c.read_weighed_node-node.result.weight c.if-keyed.false n.bare c.put_near-2.ensures.keys

@@ -67,7 +67,7 @@ put_drawn-requires g c =
     record {
       upper = none_upper law.world c.args.side c.args.root.0 c.in-Deep.left c.in-Deep.middle c.in-Deep.right c.both_ends.result.0 c.both_ends.result.1 c.take_end-taken.result.element c.read_weighed-digit.result.few k c.in-Some-value_place.q.0 at u;
       digit = none_digit law.world c.args.side c.args.root.0 c.in-Deep.left c.in-Deep.middle c.in-Deep.right c.both_ends.result.0 c.both_ends.result.1 c.take_end-taken.result.element c.read_weighed-digit.result.few k c.in-Some-value_place.q.0 at;
-      ask = none_ask law c.args.side c.args.root.0 c.in-Deep.left c.in-Deep.middle c.in-Deep.right c.both_ends.result.0 c.both_ends.result.1 c.take_end-taken.result.element c.read_weighed-digit.result.few k c.args.family c.args.whole s c.requires.ask c.in-Some-value_place.q.0 at;
+      ask = none_ask law c.args.side c.args.root.0 c.in-Deep.left c.in-Deep.middle c.in-Deep.right c.both_ends.result.0 c.both_ends.result.1 c.take_end-taken.result.element c.read_weighed-digit.result.few k c.args.family.now c.args.whole s c.requires.ask c.in-Some-value_place.q.0 at;
     }
 
 pub returns-in_default-rest : goal.returns-in_default-rest
@@ -75,14 +75,14 @@ returns-in_default-rest g c =
     let d = goal.at.returns-in_default-rest g c in
     let s = Quiet_trans (seen g d.After-read_weighed-digit) c.value_place.ensures.quiet in
     let k = taking_up c.value_place.ensures.quiet.grows (emptied g d.In_default-rest) in
-    none_put (g.met.H.Heap.lawful c.value_place.new.h) c.args.side c.args.root.0 c.in-Deep.left c.in-Deep.middle c.in-Deep.right c.both_ends.result.0 c.both_ends.result.1 c.take_end-taken.result.element c.read_weighed-digit.result.few k c.args.family c.args.whole s c.requires.ask c.in-Some-value_place.q.0 c.in-Some-value_place.ensures.place (g.met.H.Heap.lawful c.args.h.now).world c.put_drawn.ensures
+    none_put (g.met.H.Heap.lawful c.value_place.new.h) c.args.side c.args.root.0 c.in-Deep.left c.in-Deep.middle c.in-Deep.right c.both_ends.result.0 c.both_ends.result.1 c.take_end-taken.result.element c.read_weighed-digit.result.few k c.args.family.now c.args.whole s c.requires.ask c.in-Some-value_place.q.0 c.in-Some-value_place.ensures.place (g.met.H.Heap.lawful c.args.h.now).world c.put_drawn.ensures
 
 pub unreachable-requires : goal.unreachable-requires
 unreachable-requires g c =
     let d = goal.at.unreachable-requires g c in
     let s = Quiet_trans (seen g d.After-read_weighed-digit) c.value_place.ensures.quiet in
     let k = taking_up c.value_place.ensures.quiet.grows (emptied g d.In_default-rest) in
-    none_pending (g.met.H.Heap.lawful c.value_place.new.h) c.args.side c.args.root.0 c.in-Deep.left c.in-Deep.middle c.in-Deep.right c.both_ends.result.0 c.both_ends.result.1 c.take_end-taken.result.element c.read_weighed-digit.result.few k c.args.family c.args.whole s c.requires.ask c.in-None.ensures.place
+    none_pending (g.met.H.Heap.lawful c.value_place.new.h) c.args.side c.args.root.0 c.in-Deep.left c.in-Deep.middle c.in-Deep.right c.both_ends.result.0 c.both_ends.result.1 c.take_end-taken.result.element c.read_weighed-digit.result.few k c.args.family.now c.args.whole s c.requires.ask c.in-None.ensures.place
 
 -- what was taken
 taken : (g : _) (c : In-Some g) → Taking (g.H.Heap.view c.read_weighed-digit.new.h).seen c.args.side c.args.root.0 c.in-Deep.left c.in-Deep.middle c.in-Deep.right c.both_ends.result.0 c.both_ends.result.1 c.take_end-taken.result.element (Some c.in-Some.rest) c.read_weighed-digit.result.few
@@ -106,7 +106,7 @@ lesser g c =
     let quiet = Quiet_trans c.read.ensures.quiet c.read_weighed-digit.ensures.quiet in
     let u = whole_up (g.met.H.Heap.lawful c.args.h.now).world quiet.grows c.args.root.0 c.requires.tree in
     let far = far_few law2.world c.args.side c.args.root.0 c.in-Deep.left c.in-Deep.middle c.in-Deep.right c.both_ends.result.0 c.both_ends.result.1 c.take_end-taken.result.element c.in-Some.rest c.read_weighed-digit.result.few k in
-    let ask = left_ask law2 c.args.side c.args.root.0 c.in-Deep.left c.in-Deep.middle c.in-Deep.right c.both_ends.result.0 c.both_ends.result.1 c.take_end-taken.result.element c.in-Some.rest c.read_weighed-digit.result.few k c.args.family c.args.whole quiet c.requires.ask far.0 far.1 in
+    let ask = left_ask law2 c.args.side c.args.root.0 c.in-Deep.left c.in-Deep.middle c.in-Deep.right c.both_ends.result.0 c.both_ends.result.1 c.take_end-taken.result.element c.in-Some.rest c.read_weighed-digit.result.few k c.args.family.now c.args.whole quiet c.requires.ask far.0 far.1 in
     let weighs = (near_up law1 law2.world c.read_weighed-digit.ensures.quiet.grows c.both_ends.result.0.0 c.read_weighed-digit.result c.read_weighed-digit.ensures.weighed).size in
     lessened law2.world c.args.side c.args.root.0 c.in-Deep.left c.in-Deep.middle c.in-Deep.right c.both_ends.result.0 c.both_ends.result.1 c.take_end-taken.result.element c.in-Some.rest c.read_weighed-digit.result.few k u c.args.whole c.read_weighed-digit.result.weight.size ask.counts weighs
 
@@ -126,7 +126,7 @@ pub put_near-requires-clause-ask : goal.put_near-requires-clause-ask
 put_near-requires-clause-ask g c =
     let d = goal.at.put_near-requires-clause-ask g c in
     let q = Quiet_trans (seen g d.After-read_weighed-digit) c.weigh_rest-weight.ensures.quiet in
-    left_near (g.met.H.Heap.lawful c.weigh_rest-weight.new.h) c.args.side c.args.root.0 c.in-Deep.left c.in-Deep.middle c.in-Deep.right c.both_ends.result.0 c.both_ends.result.1 c.take_end-taken.result.element c.in-Some.rest c.read_weighed-digit.result.few (taking_up c.weigh_rest-weight.ensures.quiet.grows (taken g d.In-Some)) c.args.family c.args.whole q c.requires.ask
+    left_near (g.met.H.Heap.lawful c.weigh_rest-weight.new.h) c.args.side c.args.root.0 c.in-Deep.left c.in-Deep.middle c.in-Deep.right c.both_ends.result.0 c.both_ends.result.1 c.take_end-taken.result.element c.in-Some.rest c.read_weighed-digit.result.few (taking_up c.weigh_rest-weight.ensures.quiet.grows (taken g d.In-Some)) c.args.family.now c.args.whole q c.requires.ask
 
 pub put_near-requires-clause-counts : goal.put_near-requires-clause-counts
 put_near-requires-clause-counts g c =
@@ -145,6 +145,6 @@ returns g c =
     let up = c.weigh_rest-weight.ensures.quiet.grows in
     let k = taken g d.In-Some in
     let s = seen g d.After-read_weighed-digit in
-    left_put (g.met.H.Heap.lawful c.weigh_rest-weight.new.h) c.args.side c.args.root.0 c.in-Deep.left c.in-Deep.middle c.in-Deep.right c.both_ends.result.0 c.both_ends.result.1 c.take_end-taken.result.element c.in-Some.rest c.read_weighed-digit.result.few (taking_up up k) c.args.family c.args.whole (Quiet_trans s c.weigh_rest-weight.ensures.quiet) c.requires.ask c.weigh_rest-weight.result c.args.keyed law0 (g.met.H.Heap.lawful c.put_near.new.h).world c.put_near.ensures.put c.put_near.ensures.keys
+    left_put (g.met.H.Heap.lawful c.weigh_rest-weight.new.h) c.args.side c.args.root.0 c.in-Deep.left c.in-Deep.middle c.in-Deep.right c.both_ends.result.0 c.both_ends.result.1 c.take_end-taken.result.element c.in-Some.rest c.read_weighed-digit.result.few (taking_up up k) c.args.family.now c.args.whole (Quiet_trans s c.weigh_rest-weight.ensures.quiet) c.requires.ask c.weigh_rest-weight.result c.args.keyed law0 (g.met.H.Heap.lawful c.put_near.new.h).world c.put_near.ensures.put c.put_near.ensures.keys
     (λ h. (let kept = (left_keyed law2 c.args.side c.args.root.0 c.in-Deep.left c.in-Deep.middle c.in-Deep.right c.both_ends.result.0 c.both_ends.result.1 c.take_end-taken.result.element c.in-Some.rest c.read_weighed-digit.result.few k c.args.keyed (keyed_up law0 s.grows c.args.keyed c.args.root.0 h)).0 in
     c.weigh_rest-weight.ensures.key kept ∙ ap (key_in c.args.keyed) (sym (keyed_items law2 up c.args.keyed (few_list c.in-Some.rest) kept))))

@@ -63,7 +63,7 @@ far g c =
     few_there law c.both_ends.result.1.0 (deep_digits law c.args.root.0 c.in-Deep.left c.in-Deep.middle c.in-Deep.right c.in-Deep.size c.in-Deep.key (now g c) c.args.side c.both_ends.result.0 c.both_ends.result.1 c.both_ends.ensures).1
 
 -- what the level asks that the push makes
-asked : (g : _) (c : In-Some g) → (f : Few) → IsDigitAt (g.H.Heap.view c.read_weighed-digit.new.h).seen c.both_ends.result.1.0 f → LevelAsk (g.H.Heap.view c.read_weighed-digit.new.h) c.args.run.now (near_level c.args.side c.in-Some.few c.in-Deep.middle c.both_ends.result.1 f) c.args.family c.args.whole
+asked : (g : _) (c : In-Some g) → (f : Few) → IsDigitAt (g.H.Heap.view c.read_weighed-digit.new.h).seen c.both_ends.result.1.0 f → LevelAsk (g.H.Heap.view c.read_weighed-digit.new.h) c.args.run.now (near_level c.args.side c.in-Some.few c.in-Deep.middle c.both_ends.result.1 f) c.args.family.now c.args.whole
 asked g c f at =
     let law = (g.met.H.Heap.lawful c.read_weighed-digit.new.h).world in
     c.requires.ask (g.H.Heap.view c.read_weighed-digit.new.h) (quiet g c) law _ (near_pushed law c.args.side c.args.e c.args.root.0 c.in-Deep.left c.in-Deep.middle c.in-Deep.right c.in-Deep.size c.in-Deep.key (now g c) c.both_ends.result c.both_ends.ensures c.read_weighed-digit.result.few c.in-Some.few f (digit g c).shown (c.in-Some.ensures.longer c.in-Some.few refl) at)
@@ -82,14 +82,14 @@ weigh_both-weight-requires-2 g c =
     let d = (goal.at.weigh_both-weight-requires-2 g c).In-Some in
     let n = counts g d in
     let f = far g d in
-    let s = near_small c.args.side c.in-Some.few c.in-Deep.middle c.both_ends.result.1 f.0 c.args.family c.args.whole (asked g d f.0 f.1) in
+    let s = near_small c.args.side c.in-Some.few c.in-Deep.middle c.both_ends.result.1 f.0 c.args.family.now c.args.whole (asked g d f.0 f.1) in
     omega (arith, n, s)
 
 pub put_near-requires-2-clause-ask : goal.put_near-requires-2-clause-ask
 put_near-requires-2-clause-ask g c =
     let d = (goal.at.put_near-requires-2-clause-ask g c).In-Some in
     let f = far g d in
-    record { other = f.0; ends = near_ask (g.met.H.Heap.lawful c.read_weighed-digit.new.h) c.in-Some.few c.in-Deep.middle c.both_ends.result.1 f.0 c.args.family c.args.whole c.args.side (asked g d f.0 f.1) }
+    record { other = f.0; ends = near_ask (g.met.H.Heap.lawful c.read_weighed-digit.new.h) c.in-Some.few c.in-Deep.middle c.both_ends.result.1 f.0 c.args.family.now c.args.whole c.args.side (asked g d f.0 f.1) }
 
 pub put_near-requires-2-clause-counts : goal.put_near-requires-2-clause-counts
 put_near-requires-2-clause-counts g c = c.weigh_both-weight-2.ensures.size ∙ counts g (goal.at.put_near-requires-2-clause-counts g c).In-Some
@@ -102,7 +102,7 @@ returns g c =
     let ask = asked g d p.other p.there in
     let w = (g.H.Heap.view c.read_weighed-digit.new.h).seen in
     let es = few_list c.read_weighed-digit.result.few in
-    let put = put_level (g.met.H.Heap.lawful c.read_weighed-digit.new.h) c.in-Some.few c.in-Deep.middle c.both_ends.result.1 p.other c.args.family c.args.whole c.args.side ask (g.met.H.Heap.lawful c.put_near-2.new.h).world p.ends in
+    let put = put_level (g.met.H.Heap.lawful c.read_weighed-digit.new.h) c.in-Some.few c.in-Deep.middle c.both_ends.result.1 p.other c.args.family.now c.args.whole c.args.side ask (g.met.H.Heap.lawful c.put_near-2.new.h).world p.ends in
     let j = c.args.keyed in
     record {
       then_view = g.H.Heap.view c.read_weighed-digit.new.h;
@@ -137,7 +137,7 @@ full_seen g c =
 next_element : (g : _) (c : After-overflowed-over g) → holds (recs (g.H.Heap.view c.read_weighed-digit.new.h).seen) c.overflowed-over.result.next.0 is_element ≡ true
 next_element g c =
     let law = g.met.H.Heap.lawful c.read_weighed-digit.new.h in
-    next_there law c.args.side c.args.e c.args.root.0 c.in-Deep.left c.in-Deep.middle c.in-Deep.right c.both_ends.result c.read_weighed-digit.result.few c.overflowed-over.result (full_seen g c) c.args.family c.args.whole (c.requires.ask _ (Quiet_trans c.read.ensures.quiet c.read_weighed-digit.ensures.quiet) law.world)
+    next_there law c.args.side c.args.e c.args.root.0 c.in-Deep.left c.in-Deep.middle c.in-Deep.right c.both_ends.result c.read_weighed-digit.result.few c.overflowed-over.result (full_seen g c) c.args.family.now c.args.whole (c.requires.ask _ (Quiet_trans c.read.ensures.quiet c.read_weighed-digit.ensures.quiet) law.world)
 
 pub weigh-next-requires : goal.weigh-next-requires
 weigh-next-requires g c = next_element g (goal.at.weigh-next-requires g c).After-overflowed-over
@@ -159,11 +159,11 @@ full g c =
     }
 
 -- the level that the push makes
-level_asked : (g : _) (c : After-weigh-next g) → (level : Level) → IsPushed (g.H.Heap.view c.weigh-next.new.h).seen c.args.side (pushes.One c.args.e) c.args.root.0 level → LevelAsk (g.H.Heap.view c.weigh-next.new.h) c.args.run.now level c.args.family c.args.whole
+level_asked : (g : _) (c : After-weigh-next g) → (level : Level) → IsPushed (g.H.Heap.view c.weigh-next.new.h).seen c.args.side (pushes.One c.args.e) c.args.root.0 level → LevelAsk (g.H.Heap.view c.weigh-next.new.h) c.args.run.now level c.args.family.now c.args.whole
 level_asked g c = c.requires.ask (g.H.Heap.view c.weigh-next.new.h) (before g c) (g.met.H.Heap.lawful c.weigh-next.new.h).world
 
 pub put_push-below-requires : goal.put_push-below-requires
-put_push-below-requires g c = let d = (goal.at.put_push-below-requires g c).After-weigh-next in push_ask (g.met.H.Heap.lawful c.weigh-next.new.h) c.args.side c.args.e c.args.root.0 c.in-Deep.left c.in-Deep.middle c.in-Deep.right c.both_ends.result c.read_weighed-digit.result.few c.overflowed-over.result (full g d) c.args.family c.args.whole (level_asked g d)
+put_push-below-requires g c = let d = (goal.at.put_push-below-requires g c).After-weigh-next in push_ask (g.met.H.Heap.lawful c.weigh-next.new.h) c.args.side c.args.e c.args.root.0 c.in-Deep.left c.in-Deep.middle c.in-Deep.right c.both_ends.result c.read_weighed-digit.result.few c.overflowed-over.result (full g d) c.args.family.now c.args.whole (level_asked g d)
 
 -- the two elements that the digit keeps, as they are weighed
 next_weighs : (g : _) (c : After-weigh-next g) → IsWeight (g.H.Heap.view c.weigh-next.new.h).seen c.overflowed-over.result.next.0 c.weigh-next.result
@@ -171,7 +171,7 @@ next_weighs g c =
     let law = g.met.H.Heap.lawful c.read_weighed-digit.new.h in
     let up = c.read_weighed-digit.ensures.quiet.grows in
     let seen : Full (g.H.Heap.view c.read_weighed-digit.new.h).seen c.args.side c.args.e c.args.root.0 c.in-Deep.left c.in-Deep.middle c.in-Deep.right c.both_ends.result c.read_weighed-digit.result.few c.overflowed-over.result = record { size = c.in-Deep.size; key = c.in-Deep.key; here = up.records _ _ (c.read.ensures.quiet.grows.records _ _ c.in-Deep.ensures.rec); sides = c.both_ends.ensures; near_at = digit_grows up _ _ c.read_weighed-digit.ensures.weighed.shown; overflows = c.overflowed-over.ensures } in
-    let there = next_there law c.args.side c.args.e c.args.root.0 c.in-Deep.left c.in-Deep.middle c.in-Deep.right c.both_ends.result c.read_weighed-digit.result.few c.overflowed-over.result seen c.args.family c.args.whole (c.requires.ask _ (Quiet_trans c.read.ensures.quiet c.read_weighed-digit.ensures.quiet) law.world) in
+    let there = next_there law c.args.side c.args.e c.args.root.0 c.in-Deep.left c.in-Deep.middle c.in-Deep.right c.both_ends.result c.read_weighed-digit.result.few c.overflowed-over.result seen c.args.family.now c.args.whole (c.requires.ask _ (Quiet_trans c.read.ensures.quiet c.read_weighed-digit.ensures.quiet) law.world) in
     weight_up law.world c.weigh-next.ensures.quiet.grows c.overflowed-over.result.next.0 c.weigh-next.result there c.weigh-next.ensures.weight
 
 pushed_weighs : (g : _) (c : After-weigh-next g) → IsWeight (g.H.Heap.view c.weigh-next.new.h).seen c.args.e.0 c.args.own
@@ -181,13 +181,13 @@ pushed_there : (g : _) (c : After-weigh-next g) → holds (recs (g.H.Heap.view c
 pushed_there g c = there_later (before g c).grows is_element c.args.e.0 c.requires.element
 
 pub weigh_both-weight-requires : goal.weigh_both-weight-requires
-weigh_both-weight-requires g c = let d = (goal.at.weigh_both-weight-requires g c).After-weigh-next in both_fit (g.met.H.Heap.lawful c.weigh-next.new.h) c.args.side c.args.e c.args.root.0 c.in-Deep.left c.in-Deep.middle c.in-Deep.right c.both_ends.result c.read_weighed-digit.result.few c.overflowed-over.result (full g d) c.args.family c.args.whole (level_asked g d) c.weigh-next.result c.args.own (next_weighs g d) (pushed_weighs g d)
+weigh_both-weight-requires g c = let d = (goal.at.weigh_both-weight-requires g c).After-weigh-next in both_fit (g.met.H.Heap.lawful c.weigh-next.new.h) c.args.side c.args.e c.args.root.0 c.in-Deep.left c.in-Deep.middle c.in-Deep.right c.both_ends.result c.read_weighed-digit.result.few c.overflowed-over.result (full g d) c.args.family.now c.args.whole (level_asked g d) c.weigh-next.result c.args.own (next_weighs g d) (pushed_weighs g d)
 
 pub put_near-requires-clause-ask : goal.put_near-requires-clause-ask
-put_near-requires-clause-ask g c = let d = (goal.at.put_near-requires-clause-ask g c).After-weigh-next in full_ask (g.met.H.Heap.lawful c.weigh-next.new.h) c.args.side c.args.e c.args.root.0 c.in-Deep.left c.in-Deep.middle c.in-Deep.right c.both_ends.result c.read_weighed-digit.result.few c.overflowed-over.result (full g d) c.args.family c.args.whole (level_asked g d) c.put_push-below.result c.put_push-below.ensures.put
+put_near-requires-clause-ask g c = let d = (goal.at.put_near-requires-clause-ask g c).After-weigh-next in full_ask (g.met.H.Heap.lawful c.weigh-next.new.h) c.args.side c.args.e c.args.root.0 c.in-Deep.left c.in-Deep.middle c.in-Deep.right c.both_ends.result c.read_weighed-digit.result.few c.overflowed-over.result (full g d) c.args.family.now c.args.whole (level_asked g d) c.put_push-below.result c.put_push-below.ensures.put
 
 pub put_near-requires-clause-counts : goal.put_near-requires-clause-counts
-put_near-requires-clause-counts g c = let d = (goal.at.put_near-requires-clause-counts g c).After-weigh-next in kept_counts (g.met.H.Heap.lawful c.weigh-next.new.h) c.args.side c.args.e c.args.root.0 c.in-Deep.left c.in-Deep.middle c.in-Deep.right c.both_ends.result c.read_weighed-digit.result.few c.overflowed-over.result (full g d) c.args.family c.args.whole (level_asked g d) c.put_push-below.result c.put_push-below.ensures.put c.weigh-next.result c.args.own c.weigh_both-weight.result.size (next_weighs g d) (pushed_weighs g d) (pushed_there g d) c.weigh_both-weight.ensures.size
+put_near-requires-clause-counts g c = let d = (goal.at.put_near-requires-clause-counts g c).After-weigh-next in kept_counts (g.met.H.Heap.lawful c.weigh-next.new.h) c.args.side c.args.e c.args.root.0 c.in-Deep.left c.in-Deep.middle c.in-Deep.right c.both_ends.result c.read_weighed-digit.result.few c.overflowed-over.result (full g d) c.args.family.now c.args.whole (level_asked g d) c.put_push-below.result c.put_push-below.ensures.put c.weigh-next.result c.args.own c.weigh_both-weight.result.size (next_weighs g d) (pushed_weighs g d) (pushed_there g d) c.weigh_both-weight.ensures.size
 
 pub returns-in_default-longer : goal.returns-in_default-longer
-returns-in_default-longer g c = let d = (goal.at.returns-in_default-longer g c).After-weigh-next in pushed_put (g.met.H.Heap.lawful c.weigh-next.new.h) c.args.side c.args.e c.args.root.0 c.in-Deep.left c.in-Deep.middle c.in-Deep.right c.both_ends.result c.read_weighed-digit.result.few c.overflowed-over.result (full g d) c.args.family c.args.whole (level_asked g d) c.put_push-below.result c.put_push-below.ensures.put (g.met.H.Heap.lawful c.put_push-below.new.h).world (g.met.H.Heap.lawful c.put_near.new.h).world c.put_near.ensures.put (before g d) c.args.keyed c.weigh-next.result c.args.own c.weigh_both-weight.result (next_weighs g d) (pushed_weighs g d) (pushed_there g d) c.weigh_both-weight.ensures.key c.put_push-below.ensures.keys c.put_near.ensures.keys
+returns-in_default-longer g c = let d = (goal.at.returns-in_default-longer g c).After-weigh-next in pushed_put (g.met.H.Heap.lawful c.weigh-next.new.h) c.args.side c.args.e c.args.root.0 c.in-Deep.left c.in-Deep.middle c.in-Deep.right c.both_ends.result c.read_weighed-digit.result.few c.overflowed-over.result (full g d) c.args.family.now c.args.whole (level_asked g d) c.put_push-below.result c.put_push-below.ensures.put (g.met.H.Heap.lawful c.put_push-below.new.h).world (g.met.H.Heap.lawful c.put_near.new.h).world c.put_near.ensures.put (before g d) c.args.keyed c.weigh-next.result c.args.own c.weigh_both-weight.result (next_weighs g d) (pushed_weighs g d) (pushed_there g d) c.weigh_both-weight.ensures.key c.put_push-below.ensures.keys c.put_near.ensures.keys

@@ -16,7 +16,7 @@ use Rattle.finger_level.proofs.puts.put_push.Goals as goal
 use Rattle.finger_level.proofs.puts.put_push.Goals.{After-put_nodes-es, After-weigh_pushed-above, After-weigh_tree-below}
 
 pub put_nodes-es-requires : goal.put_nodes-es-requires
-put_nodes-es-requires g c = nodes_ask c.args.side c.args.tree c.args.nodes c.args.family c.requires
+put_nodes-es-requires g c = nodes_ask c.args.side c.args.tree c.args.nodes c.args.family.now c.requires
 
 -- the next place is in hand
 held : (g : _) (c : After-put_nodes-es g) → contains (g.H.Heap.view c.put_nodes-es.new.h).hand.reserved c.put_nodes-es.new.run.next ≡ true
@@ -26,7 +26,7 @@ there : (g : _) (c : After-put_nodes-es g) → Found (g.H.Heap.view c.args.h.now
 there g c =
     let l = c.put_nodes-es.ensures.put.laid in
     let law = g.met.H.Heap.lawful c.put_nodes-es.new.h in
-    found (g.met.H.Heap.lawful c.args.h.now).world law.world l.filled.grows c.put_nodes-es.new.run.next (omega (arith, l.next)) (above_fixed law c.put_nodes-es.new.run.next (held g c)) c.args.side c.args.tree c.args.nodes c.put_nodes-es.result c.args.family c.requires c.put_nodes-es.ensures.put.under c.put_nodes-es.ensures.put.shown
+    found (g.met.H.Heap.lawful c.args.h.now).world law.world l.filled.grows c.put_nodes-es.new.run.next (omega (arith, l.next)) (above_fixed law c.put_nodes-es.new.run.next (held g c)) c.args.side c.args.tree c.args.nodes c.put_nodes-es.result c.args.family.now c.requires c.put_nodes-es.ensures.put.under c.put_nodes-es.ensures.put.shown
 
 pub weigh_pushed-above-requires-clause-elements : goal.weigh_pushed-above-requires-clause-elements
 weigh_pushed-above-requires-clause-elements g c = sorts_of_elements (g.met.H.Heap.lawful c.put_nodes-es.new.h).world _ _ _ (there g (goal.at.weigh_pushed-above-requires-clause-elements g c).After-put_nodes-es).nodes.each
@@ -53,14 +53,14 @@ put-requires-clause-held g c = rw (Quiet_trans c.weigh_pushed-above.ensures.quie
 
 -- the nodes are put and weighed
 done : (g : _) (c : After-weigh_tree-below g) → Weighed (g.H.Heap.view c.args.h.now) (g.H.Heap.view c.weigh_tree-below.new.h) c.args.run.now c.put_nodes-es.new.run.next c.args.nodes c.put_nodes-es.result c.args.tree (c.weigh_pushed-above.result.size + c.weigh_tree-below.result.size)
-done g c = weighed {side = c.args.side} {family = c.args.family} (g.met.H.Heap.lawful c.args.h.now).world (g.met.H.Heap.lawful c.put_nodes-es.new.h) (g.met.H.Heap.lawful c.weigh_tree-below.new.h) c.requires c.put_nodes-es.ensures.put c.weigh_pushed-above.ensures.quiet c.weigh_tree-below.ensures.quiet c.tree_or_empty-tree.result c.tree_or_empty-tree.ensures _ _ c.weigh_pushed-above.ensures.size c.weigh_tree-below.ensures.size
+done g c = weighed {side = c.args.side} {family = c.args.family.now} (g.met.H.Heap.lawful c.args.h.now).world (g.met.H.Heap.lawful c.put_nodes-es.new.h) (g.met.H.Heap.lawful c.weigh_tree-below.new.h) c.requires c.put_nodes-es.ensures.put c.weigh_pushed-above.ensures.quiet c.weigh_tree-below.ensures.quiet c.tree_or_empty-tree.result c.tree_or_empty-tree.ensures _ _ c.weigh_pushed-above.ensures.size c.weigh_tree-below.ensures.size
 
 pub put-requires-clause-fits : goal.put-requires-clause-fits
 put-requires-clause-fits g c =
-    rw c.suspension.ensures (weighed_first (done g (goal.at.put-requires-clause-fits g c).After-weigh_tree-below) c.args.side c.args.family c.in-First.is c.requires c.next-origin.result c.tree_or_empty-tree.result c.next-origin.ensures c.tree_or_empty-tree.ensures _ (omega (arith, c.max.type_inv)))
+    rw c.suspension.ensures (weighed_first (done g (goal.at.put-requires-clause-fits g c).After-weigh_tree-below) c.args.side c.args.family.now c.in-First.is c.requires c.next-origin.result c.tree_or_empty-tree.result c.next-origin.ensures c.tree_or_empty-tree.ensures _ (omega (arith, c.max.type_inv)))
 
-later : (g : _) (c : After-weigh_tree-below g) (s o : Ref) (off : ℕ) (e : c.args.family ≡ Later s o off) (key : Item) (f : key.0 < 18446744073709551616) → LaterFits (g.H.Heap.view c.weigh_tree-below.new.h) c.put_nodes-es.new.run.next (push_record c.args.side c.tree_or_empty-tree.result c.put_nodes-es.result o (off + 1) (record { size = c.weigh_pushed-above.result.size + c.weigh_tree-below.result.size; key = key })) off
-later g c s o off e key f = weighed_later (done g c) c.args.side c.args.family c.requires s o c.tree_or_empty-tree.result off e c.tree_or_empty-tree.ensures key f
+later : (g : _) (c : After-weigh_tree-below g) (s o : Ref) (off : ℕ) (e : c.args.family.now ≡ Later s o off) (key : Item) (f : key.0 < 18446744073709551616) → LaterFits (g.H.Heap.view c.weigh_tree-below.new.h) c.put_nodes-es.new.run.next (push_record c.args.side c.tree_or_empty-tree.result c.put_nodes-es.result o (off + 1) (record { size = c.weigh_pushed-above.result.size + c.weigh_tree-below.result.size; key = key })) off
+later g c s o off e key f = weighed_later (done g c) c.args.side c.args.family.now c.requires s o c.tree_or_empty-tree.result off e c.tree_or_empty-tree.ensures key f
 
 pub overflow_add-off : goal.overflow_add-off
 overflow_add-off g c = let k = later g (goal.at.overflow_add-off g c).After-weigh_tree-below c.in-Later.of c.in-Later.origin c.in-Later.off c.in-Later.is (record { 0 = 0 }) (omega arith) in omega (arith, k.few)
@@ -71,7 +71,7 @@ put-requires-in-Later-clause-fits g c = rw c.suspension-in-Later.ensures (later 
 pub returns-in-First-clause-put : goal.returns-in-First-clause-put
 returns-in-First-clause-put g c =
     let p = c.put.ensures in
-    weighed_put (done g (goal.at.returns-in-First-clause-put g c).After-weigh_tree-below) (g.met.H.Heap.lawful c.put_nodes-es.new.h) c.requires c.put_nodes-es.ensures.put (Quiet_trans c.weigh_pushed-above.ensures.quiet c.weigh_tree-below.ensures.quiet) p.put p.run (g.met.H.Heap.lawful c.put.new.self).world c.next-origin.result 0 _ c.tree_or_empty-tree.result c.suspension.ensures c.tree_or_empty-tree.ensures (first_spends (done g (goal.at.returns-in-First-clause-put g c).After-weigh_tree-below) c.args.side c.args.family c.in-First.is c.requires c.next-origin.result c.tree_or_empty-tree.result c.next-origin.ensures _ _ c.suspension.ensures) (rw c.in-First.is tt) c.put.result.0 p.place
+    weighed_put (done g (goal.at.returns-in-First-clause-put g c).After-weigh_tree-below) (g.met.H.Heap.lawful c.put_nodes-es.new.h) c.requires c.put_nodes-es.ensures.put (Quiet_trans c.weigh_pushed-above.ensures.quiet c.weigh_tree-below.ensures.quiet) p.put p.run (g.met.H.Heap.lawful c.put.new.self).world c.next-origin.result 0 _ c.tree_or_empty-tree.result c.suspension.ensures c.tree_or_empty-tree.ensures (first_spends (done g (goal.at.returns-in-First-clause-put g c).After-weigh_tree-below) c.args.side c.args.family.now c.in-First.is c.requires c.next-origin.result c.tree_or_empty-tree.result c.next-origin.ensures _ _ c.suspension.ensures) (rw c.in-First.is tt) c.put.result.0 p.place
 
 pub returns-in-Later-clause-put : goal.returns-in-Later-clause-put
 returns-in-Later-clause-put g c =
@@ -80,8 +80,8 @@ returns-in-Later-clause-put g c =
     let law = (g.met.H.Heap.lawful c.put-in-Later.new.self).world in
     let weight : Weight = record { size = c.weigh_pushed-above.result.size + c.weigh_tree-below.result.size; key = record { 0 = c.max.result } } in
     weighed_put d (g.met.H.Heap.lawful c.put_nodes-es.new.h) c.requires c.put_nodes-es.ensures.put (Quiet_trans c.weigh_pushed-above.ensures.quiet c.weigh_tree-below.ensures.quiet) p.put p.run law c.in-Later.origin (c.in-Later.off + 1) weight c.tree_or_empty-tree.result c.suspension-in-Later.ensures c.tree_or_empty-tree.ensures
-    (later_spends (g.H.Heap.view c.weigh_tree-below.new.h).seen c.put_nodes-es.new.run.next c.args.side c.args.family _ c.tree_or_empty-tree.result c.put_nodes-es.result c.in-Later.origin c.in-Later.off weight _ c.suspension-in-Later.ensures)
-    (next_put d law p.put c.in-Later.of c.in-Later.origin c.in-Later.off c.args.family c.in-Later.is c.args.side weight c.tree_or_empty-tree.result c.suspension-in-Later.ensures c.tree_or_empty-tree.ensures) c.put-in-Later.result.0 p.place
+    (later_spends (g.H.Heap.view c.weigh_tree-below.new.h).seen c.put_nodes-es.new.run.next c.args.side c.args.family.now _ c.tree_or_empty-tree.result c.put_nodes-es.result c.in-Later.origin c.in-Later.off weight _ c.suspension-in-Later.ensures)
+    (next_put d law p.put c.in-Later.of c.in-Later.origin c.in-Later.off c.args.family.now c.in-Later.is c.args.side weight c.tree_or_empty-tree.result c.suspension-in-Later.ensures c.tree_or_empty-tree.ensures) c.put-in-Later.result.0 p.place
 
 pub returns-in-First-clause-keys : goal.returns-in-First-clause-keys
 returns-in-First-clause-keys g c =

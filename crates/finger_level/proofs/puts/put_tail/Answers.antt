@@ -18,10 +18,10 @@ use Rattle.finger_level.proofs.puts.put_tail.Goals as goal
 use Rattle.finger_level.proofs.puts.put_tail.Goals.{After-put_digit-digit, After-weigh_tree-inner}
 
 pub put_digit-digit-requires : goal.put_digit-digit-requires
-put_digit-digit-requires g c = record { part = tail_ask c.args.side c.args.tree c.args.part c.args.family c.requires; there = c.requires.there; under = c.requires.under }
+put_digit-digit-requires g c = record { part = tail_ask c.args.side c.args.tree c.args.part c.args.family.now c.requires; there = c.requires.there; under = c.requires.under }
 
 elements : (g : _) (c : After-put_digit-digit g) → AreElements (g.H.Heap.view c.put_digit-digit.new.h).seen (suc c.requires.depth) c.args.run.now.next (digit_list c.args.part)
-elements g c = are_up (g.met.H.Heap.lawful c.args.h.now).world c.put_digit-digit.ensures.put.laid.filled.grows (suc c.requires.depth) c.args.run.now.next (digit_list c.args.part) (tail_elements c.args.side c.args.tree c.args.part c.args.family c.requires)
+elements g c = are_up (g.met.H.Heap.lawful c.args.h.now).world c.put_digit-digit.ensures.put.laid.filled.grows (suc c.requires.depth) c.args.run.now.next (digit_list c.args.part) (tail_elements c.args.side c.args.tree c.args.part c.args.family.now c.requires)
 
 pub weigh_few-near-requires : goal.weigh_few-near-requires
 weigh_few-near-requires g c =
@@ -29,7 +29,7 @@ weigh_few-near-requires g c =
     rw c.few_of-few.ensures (record { elements = sorts_of_elements (g.met.H.Heap.lawful c.put_digit-digit.new.h).world _ _ _ e.each; small = e.small })
 
 pub weigh_tree-inner-requires : goal.weigh_tree-inner-requires
-weigh_tree-inner-requires g c = tree_later (grows_trans c.put_digit-digit.ensures.put.laid.filled.grows c.weigh_few-near.ensures.quiet.grows) (tail_inner c.args.side c.args.tree c.args.part c.args.family c.requires)
+weigh_tree-inner-requires g c = tree_later (grows_trans c.put_digit-digit.ensures.put.laid.filled.grows c.weigh_few-near.ensures.quiet.grows) (tail_inner c.args.side c.args.tree c.args.part c.args.family.now c.requires)
 
 -- the digit is put and all is weighed
 quiet : (g : _) (c : After-weigh_tree-inner g) → Quiet (g.H.Heap.view c.put_digit-digit.new.h) (g.H.Heap.view c.weigh_tree-inner.new.h)
