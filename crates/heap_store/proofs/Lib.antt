@@ -30,6 +30,7 @@ pub mod EventEnds
 pub mod RowLaws
 pub mod HistoryLaws
 pub mod PlainLists
+pub mod HeldLaws
 pub mod SlotLaws
 pub mod PlainWorlds
 pub mod PlainSeen

@@ -1,14 +1,13 @@
 -- Lists of claims, free places and open names.
-use Rattle.std.proofs.Common.{◌≡◌, ◌≢◌, ℕ, zero, suc, ◌+◌, ◌-◌, ◌<◌, ◌≤◌, Bool, true, false, List, [], ◌∷◌, ◌++◌, length, reverse, replicate, Option, Some, None, refl, sym, ap, ◌∙◌, arith, subst, ⊎_elim, cond, ◌||◌, eqb}
+use Rattle.std.proofs.Common.{◌≡◌, ◌≢◌, ℕ, zero, suc, ◌+◌, ◌-◌, ◌<◌, ◌≤◌, Bool, true, false, List, [], ◌∷◌, ◌++◌, length, reverse, replicate, Option, Some, None, refl, sym, ap, ◌∙◌, arith, subst, ⊎_elim, cond, eqb}
 use Rattle.std.specs.Prelude.{filter, count_by, slice_set, slice_index_or}
 use Rattle.std.specs.List.{list_all}
 use Rattle.std.proofs.lemmas.Grind.{common_steps}
 use Rattle.std.proofs.lemmas.Bool.{cases_eq, cases_lt, true≢false, or_left, or_right, eq-eqb}
-use Rattle.std.proofs.lemmas.List.{get_or_append_left, get_or-append_right, get_or_past, get_or-replicate, set-append_left, length-append, length-replicate, length-set, replicate-append-replicate, append_assoc, reverse-append, length-reverse}
-use Rattle.std.proofs.Math.Seq.{get_or-append_seam}
+use Rattle.std.proofs.lemmas.List.{get_or_append_left, get_or-append_right, get_or_past, get_or-replicate, set-append_left, length-append, length-replicate, length-set, replicate-append-replicate, append_assoc, reverse-append}
 use Rattle.heap_store.specs.declared.nodes.Node.{Node}
 use Rattle.heap_store.specs.declared.claims.HeldClaim.{HeldClaim}
-use Rattle.heap_store.specs.Hand.{contains, all_distinct, places_from, without, claim_places, without_claim, mark_newest}
+use Rattle.heap_store.specs.Hand.{contains, all_distinct, places_from, without, claim_places, without_claim}
 use Rattle.heap_store.specs.Rows.{row_of}
 use Rattle.heap_store.specs.View.{is_there}
 use Rattle.heap_store.specs.Plain.{filled_up, no_words, free_places, open_names, is_ended_row}
@@ -301,29 +300,3 @@ filter-reverse t (x ∷ xs) = ap (filter t) (reverse-cons x xs) ∙ (filter-appe
         append_nil : {Y : Type 0} (ys : List Y) → ys ++ [] ≡ ys
         append_nil [] = refl
         append_nil (y ∷ ys) = ap (λ z. y ∷ z) (append_nil ys)
-
--- the newest claim taken off
-pub reverse-popped : (s i : ℕ) (xs ys : List HeldClaim) (p c : HeldClaim) → xs ≡ ys ++ p ∷ [] → c ≡ slice_index_or xs i c → i ≡ length ys → c.place.0 ≡ s → all_distinct (claim_places (reverse xs)) ≡ true → reverse ys ≡ without_claim s (reverse xs)
-reverse-popped s i xs ys p c e f j k d =
-    let a : reverse xs ≡ p ∷ reverse ys = ap reverse e ∙ reverse-append ys (p ∷ []) in
-    let b : c ≡ p = f ∙ (rw (e, j) (get_or-append_seam ys p [] c)) in
-    let here : p.place.0 ≡ s = ap (λ (t : HeldClaim). t.place.0) (sym b) ∙ k in
-    let d' : all_distinct (p.place.0 ∷ claim_places (reverse ys)) ≡ true = subst (λ l. all_distinct (claim_places l) ≡ true) a d in
-    rw a (first_off s p (reverse ys) here d')
-  where
-    first_off : (s : ℕ) (p : HeldClaim) (cs : List HeldClaim) → p.place.0 ≡ s → all_distinct (p.place.0 ∷ claim_places cs) ≡ true → cs ≡ without_claim s (p ∷ cs)
-    first_off s p cs here d = let k = without_claim-absent s cs in grind (arith, common_steps, here, d, k)
-
--- the newest claim marked
-mark-append : (b : Bool) (ys zs : List HeldClaim) → 0 < length ys → mark_newest b (ys ++ zs) ≡ mark_newest b ys ++ zs
-mark-append b [] zs l = absurd (omega arith)
-mark-append b (y ∷ ys) zs l = refl
-
-pub reverse-marked : (later : Bool) (i : ℕ) (xs : List HeldClaim) (c d : HeldClaim) → length xs ≡ i + 1 → c ≡ slice_index_or xs i d → reverse (slice_set xs i (record c { built = true; passed = c.passed || later })) ≡ mark_newest later (reverse xs)
-reverse-marked later i [] c d l e = absurd (omega arith)
-reverse-marked later zero (x ∷ []) c d l e = rw e refl
-reverse-marked later zero (x ∷ y ∷ xs) c d l e = absurd (omega arith)
-reverse-marked later (suc i) (x ∷ xs) c d l e =
-    let ih = reverse-marked later i xs c d (omega arith) e in
-    let v : HeldClaim = record c { built = true; passed = c.passed || later } in
-    reverse-cons x (slice_set xs i v) ∙ (ap (λ z. z ++ x ∷ []) ih ∙ (sym (mark-append later (reverse xs) (x ∷ []) (rw length-reverse (omega arith))) ∙ ap (mark_newest later) (sym (reverse-cons x xs))))

@@ -1,8 +1,8 @@
 -- Sums over records and over lists of places.
-use Rattle.std.proofs.Common.{◌≡◌, ℕ, zero, suc, ◌<◌, ◌≤◌, ◌+◌, refl, sym, ap, ◌∙◌, arith, ⊎_elim, Option, Some, None, List, [], ◌∷◌, length}
-use Rattle.std.specs.Prelude.{sum_by, slice_index_or}
+use Rattle.std.proofs.Common.{◌≡◌, ℕ, zero, suc, ◌<◌, ◌≤◌, ◌+◌, refl, sym, ap, ◌∙◌, arith, ⊎_elim, Option, Some, None, List, [], ◌∷◌, ◌++◌, length, replicate}
+use Rattle.std.specs.Prelude.{sum_by, slice_set, slice_index_or}
 use Rattle.std.proofs.lemmas.Bool.{cases_eq}
-use Rattle.std.proofs.lemmas.List.Sums.{sum_by-cons}
+use Rattle.std.proofs.lemmas.List.Sums.{sum_by-cons, sum_by-append, sum_by-set}
 use Rattle.lazy_rec.specs.declared.records.Rec.{Rec}
 use Rattle.lazy_rec.specs.Named.{Records, at_record}
 use Rattle.heap_store.specs.declared.nodes.Node.{Node}
@@ -92,3 +92,17 @@ module _ (w : World) (f : Option Node → ℕ) (g : ℕ → Rec → ℕ) where
 
   pub nodes_ge : ((q : ℕ) → term (recs w) g q ≤ f (node_at w q)) → sum_records w g ≤ sum_by f w.nodes
   nodes_ge le = omega (arith, list_sum f None w.nodes, below_ge (recs w) g (λ k. f (node_at w k)) (length w.nodes) le)
+
+-- ---- places of a store
+
+-- places that show nothing add nothing
+sum-free : (f : Option Node → ℕ) → f None ≡ 0 → (k : ℕ) → sum_by f (replicate k None) ≡ 0
+sum-free f none zero = refl
+sum-free f none (suc k) = omega (arith, sum_by-cons f None (replicate k None), none, sum-free f none k)
+
+pub sum-drawn : (f : Option Node → ℕ) → f None ≡ 0 → (places : List (Option Node)) (k : ℕ) → sum_by f (places ++ replicate k None) ≡ sum_by f places
+sum-drawn f none places k = omega (arith, sum_by-append f places (replicate k None), sum-free f none k)
+
+-- a place shows another node
+pub sum-shown : (f : Option Node → ℕ) (places : List (Option Node)) (p : ℕ) (old new : Option Node) → p < length places → slice_index_or places p None ≡ old → sum_by f (slice_set places p new) + f old ≡ sum_by f places + f new
+sum-shown f places p old new l e = omega (arith, sum_by-set f places p new None l, ap f e)

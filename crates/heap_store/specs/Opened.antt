@@ -1,11 +1,11 @@
 -- The view of a store of one thread, and of one that was just opened.
-use Rattle.std.specs.Prelude.{ℕ, [], reverse}
+use Rattle.std.specs.Prelude.{ℕ, []}
 use Rattle.heap_store.specs.declared.plain.PlainHeap.{PlainHeap}
 use Rattle.heap_store.specs.View.{View}
 use Rattle.heap_store.specs.Plain.{plain_view, five_records, no_refusal}
 
 abbrev pub view_of : PlainHeap → View
-view_of h = plain_view h.nodes.shown (reverse h.claims.items) h.rows.items h.open_rows.items h.capacity h.row_capacity h.refused h.last
+view_of h = plain_view h.nodes.shown h.claims.held h.rows.items h.open_rows.items h.capacity h.row_capacity h.refused h.last
 
 -- so many places and rows; the five fixed records stand, and nothing is drawn or in hand
 abbrev pub opened_view : ℕ → ℕ → View

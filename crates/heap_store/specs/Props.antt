@@ -17,7 +17,7 @@ use Rattle.heap_store.specs.LookedAt.{HasRoots}
 use Rattle.heap_store.specs.Rows.{Row, Ending}
 use Rattle.heap_store.specs.Hand.{Hand, IsLawfulHand}
 use Rattle.heap_store.specs.View.{View, IsLawfulView}
-use Rattle.heap_store.specs.declared.counts.Counts.{Counts}
+use Rattle.heap_store.specs.declared.plain.Work.{Work}
 use Rattle.heap_store.specs.Counts.{AreCounted}
 use Rattle.heap_store.specs.Plain.{IsSeenWell, IsPlain}
 
@@ -66,5 +66,5 @@ IsSeenWell-prop w claims = hlevel (IsLawful-prop, IsLegal-prop, HasRoots-prop, p
 pub IsPlain-prop : (capacity row_capacity : ℕ) (nodes : List (Option Node)) (claims : List HeldClaim) (rows : List (List ℕ)) → IsProp (IsPlain capacity row_capacity nodes claims rows)
 IsPlain-prop capacity row_capacity nodes claims rows = hlevel (IsSeenWell-prop, props)
 
-pub AreCounted-prop : (places : List (Option Node)) (c : Counts) → IsProp (AreCounted places c)
-AreCounted-prop places c = hlevel props
+pub AreCounted-prop : (places : List (Option Node)) (work : Work) → IsProp (AreCounted places work)
+AreCounted-prop places work = hlevel props

@@ -1,5 +1,5 @@
 -- What the slots of drawn places show.
-use Rattle.std.specs.Prelude.{◌≡◌, ℕ, min, ⊤, List, Option, Some, None, map, option_map, slice_index_or}
+use Rattle.std.specs.Prelude.{◌≡◌, ℕ, min, ⊤, List, Option, Some, None, map, option_map, slice_index_or, sum_by}
 use Rattle.lazy_rec.specs.declared.records.Rec.{Rec}
 use Rattle.lazy_rec.specs.Units.{steps}
 use Rattle.lazy_rec.specs.declared.states.SuspState.{SuspState}
@@ -8,6 +8,7 @@ use Rattle.heap_store.specs.declared.nodes.Node.{Node}
 use Rattle.heap_store.specs.declared.slots.Slot.{Slot}
 use Rattle.heap_store.specs.declared.slots.SlotState.{SlotState}
 use Rattle.heap_store.specs.declared.slots.SlotState.TheVariants as kept
+use Rattle.heap_store.specs.Budget.{node_count_of}
 use Rattle.heap_store.specs.Plain.{filled_up}
 
 -- what the drawn places show, in order, and how many there is room for
@@ -44,3 +45,7 @@ shown_in slots drawn = filled_up None drawn (map node_in slots)
 
 abbrev pub at_place : List (Option Node) → ℕ → Option Node
 at_place shown p = slice_index_or shown p None
+
+-- how many of the drawn places are published
+abbrev pub published_in : List (Option Node) → ℕ
+published_in shown = sum_by node_count_of shown

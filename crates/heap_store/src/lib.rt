@@ -7,6 +7,7 @@ pub mod cells;
 pub mod claims;
 pub mod counts;
 pub mod heap;
+pub mod held;
 pub mod jobs;
 pub mod nodes;
 pub mod plain;

@@ -1,44 +1,54 @@
 //! The store of one thread, over vectors.
-ghost use Rattle.std.specs.Prelude.{◌≡◌, ℕ, ◌+◌, ◌<◌, ◌≤◌, [], ◌∷◌, ◌++◌, ◌||◌, true, reverse, map, slice_index, vec_len, vec_capacity};
+ghost use Rattle.std.specs.Prelude.{◌≡◌, ℕ, ◌+◌, ◌<◌, ◌≤◌, [], ◌∷◌, ◌++◌, true, map, slice_index, vec_len, vec_capacity};
 ghost use Rattle.lazy_rec.specs.declared.limits.TheConstants.{MOST_EVENTS, MOST_NODES};
 ghost use Rattle.heap_store.specs.World.{fixed_places};
-ghost use Rattle.heap_store.specs.Hand.{without_claim, is_later, mark_newest, all_distinct, claim_places, rows_after_end};
+ghost use Rattle.heap_store.specs.Hand.{is_later, rows_after_end};
 ghost use Rattle.heap_store.specs.Plain.{IsPlain, plain_view, five_records, rows_after_word, begun_count};
 ghost use Rattle.heap_store.specs.Counts.{AreCounted};
 ghost use Rattle.heap_store.specs.Props.{IsPlain-prop, AreCounted-prop, IsLawfulView-prop};
 ghost use Rattle.heap_store.specs.View.{IsLawfulView};
 ghost use Rattle.heap_store.specs.RowCalls.{begins_row};
 
-use crate::claims::{Claim, Full, HeldClaim, NamesFull, OpenRow};
+use crate::claims::{Claim, Full, NamesFull, OpenRow};
 use crate::counts::Counts;
 use crate::heap::{Claims, Heap, Rows};
+use crate::held::HeldClaims;
 use crate::nodes::Node;
 use crate::run::Run;
 use crate::slots::DrawnPlaces;
 use lazy_rec::{NoMemory, Rec, Ref, SuspState};
 use std::alloc::Global;
 
+/// What the states of places tell of the work on a store: how many suspensions are done and the steps that they took, and how many
+/// attempts were given back. It is counted as the work is done.
+#[derive(Clone, Copy)]
+struct Work {
+    forced: u64,
+    steps: u64,
+    given_up: u64,
+}
+
 /// The store of one thread. It takes its room when it is opened: no other call asks for memory. Places and rows are filled
 /// as they are drawn, so a large store that is little used touches little memory.
 #[derive(Drop)]
 pub struct PlainHeap {
     nodes: DrawnPlaces,
-    claims: Vec<HeldClaim>,
+    claims: HeldClaims,
     rows: Vec<[u64; 8]>,
     open_rows: Vec<OpenRow>,
     capacity: u32,
     row_capacity: u32,
     refused: u64,
     last: Full,
-    counts: Counts,
+    work: Work,
     ghost node_room: { nodes.room ≡ fixed_places + capacity },
-    ghost claim_room: { fixed_places + capacity ≤ vec_capacity claims },
+    ghost claim_room: { fixed_places + capacity ≤ claims.room },
     ghost row_room: { row_capacity ≤ vec_capacity rows },
     ghost open_room: { row_capacity ≤ vec_capacity open_rows },
     ghost crowd: { vec_len open_rows ≤ begun_count rows.items },
-    ghost plain: { IsPlain capacity row_capacity nodes.shown (reverse claims.items) rows.items } by { IsPlain-prop capacity row_capacity nodes.shown (reverse claims.items) rows.items },
-    ghost counted: { AreCounted nodes.shown counts } by { AreCounted-prop nodes.shown counts },
-    ghost law: { IsLawfulView (plain_view nodes.shown (reverse claims.items) rows.items open_rows.items capacity row_capacity refused last) } by { IsLawfulView-prop (plain_view nodes.shown (reverse claims.items) rows.items open_rows.items capacity row_capacity refused last) },
+    ghost plain: { IsPlain capacity row_capacity nodes.shown claims.held rows.items } by { IsPlain-prop capacity row_capacity nodes.shown claims.held rows.items },
+    ghost counted: { AreCounted nodes.shown work } by { AreCounted-prop nodes.shown work },
+    ghost law: { IsLawfulView (plain_view nodes.shown claims.held rows.items open_rows.items capacity row_capacity refused last) } by { IsLawfulView-prop (plain_view nodes.shown claims.held rows.items open_rows.items capacity row_capacity refused last) },
 }
 
 impl PlainHeap {
@@ -54,7 +64,7 @@ impl PlainHeap {
         let Ok(places) = DrawnPlaces::with_room(alloc, nodes + 5) else {
             return Err(NoMemory)
         };
-        let Ok(claims) = Vec::with_capacity(alloc, nodes as usize + 5) else {
+        let Ok(claims) = HeldClaims::with_room(alloc, nodes as usize + 5) else {
             return Err(NoMemory)
         };
         let Ok(row_room) = Vec::with_capacity(alloc, rows as usize) else {
@@ -75,11 +85,10 @@ impl PlainHeap {
                 drawn: 0,
                 wanted: 0,
             },
-            counts: Counts {
+            work: Work {
                 forced: 0,
                 steps: 0,
                 given_up: 0,
-                nodes: 0,
             },
         })
     }
@@ -115,11 +124,17 @@ impl PlainHeap {
         self.nodes.get(place)
     }
 
-    /// What the work on the store came to until now. It is counted as the work is done, so no place is looked at.
+    /// What the work on the store came to until now. It is counted as the work is done, and the published places by their slots: no
+    /// place is looked at.
     pub fn counts(&self) -> Counts
         ensures { result ≡ counts_of (view_of self.now).seen }
     {
-        self.counts
+        Counts {
+            forced: self.work.forced,
+            steps: self.work.steps,
+            given_up: self.work.given_up,
+            nodes: self.nodes.published() - 5,
+        }
     }
 }
 
@@ -168,45 +183,6 @@ fn is_later(rec: &Rec) -> bool
     }
 }
 
-/// The attempt of a claim has published a place, or the next suspension of its family.
-#[inline(always)]
-fn mark(claim: &mut HeldClaim, later: bool)
-    ensures { claim.new ≡ record claim.old { built = true; passed = claim.old.passed || later } }
-{
-    claim.built = true;
-    if later {
-        claim.passed = true;
-    }
-}
-
-/// The newest claim's attempt has published a place, or the next suspension of its family.
-#[inline(always)]
-fn mark_newest(claims: &mut Vec<HeldClaim>, later: bool)
-    ensures items { reverse claims.new.items ≡ mark_newest later (reverse claims.old.items) }
-    ensures room { vec_capacity claims.new ≡ vec_capacity claims.old }
-{
-    let len = claims.len();
-    if len > 0 {
-        mark(&mut claims[len - 1], later);
-    }
-}
-
-/// Takes a place off the claims.
-fn release(claims: &mut Vec<HeldClaim>, s: Ref)
-    requires once { all_distinct (claim_places (reverse claims.old.items)) ≡ true }
-    ensures items { reverse claims.new.items ≡ without_claim s.0 (reverse claims.old.items) }
-    ensures room { vec_capacity claims.new ≡ vec_capacity claims.old }
-{
-    let len = claims.len();
-    if len > 0 && claims[len - 1].place.0 == s.0 {
-        let Some(_) = claims.pop() else {
-            unreachable!()
-        };
-        return;
-    }
-    claims.retain(|c| c.place.0 != s.0);
-}
-
 impl Heap for PlainHeap {
     ghost use Rattle.heap_store.specs.Opened.{view_of};
 
@@ -243,8 +219,7 @@ impl Heap for PlainHeap {
     fn put(&mut self, run: &mut Run, rec: Rec) -> Ref {
         let place = run.step();
         self.nodes.publish(place, rec);
-        self.counts.nodes += 1;
-        mark_newest(&mut self.claims, is_later(&rec));
+        self.claims.mark(is_later(&rec));
         place
     }
 
@@ -272,14 +247,7 @@ impl Claims for PlainHeap {
         match self.nodes.state(s) {
             SuspState::Unforced { given_up } => {
                 self.nodes.set_state(s, SuspState::Claimed { given_up });
-                add(
-                    &mut self.claims,
-                    HeldClaim {
-                        place: s,
-                        built: false,
-                        passed: false,
-                    },
-                );
+                self.claims.add(s);
                 Claim::Won
             }
             SuspState::Claimed { .. } => Claim::Busy,
@@ -299,9 +267,9 @@ impl Claims for PlainHeap {
                 given_up,
             },
         );
-        self.counts.forced += 1;
-        self.counts.steps += u64::from(steps);
-        release(&mut self.claims, s);
+        self.work.forced += 1;
+        self.work.steps += u64::from(steps);
+        self.claims.release(s);
     }
 
     fn give_up(&mut self, s: Ref) {
@@ -311,8 +279,8 @@ impl Claims for PlainHeap {
         let raised = given_up.saturating_add(1);
         self.nodes
             .set_state(s, SuspState::Unforced { given_up: raised });
-        self.counts.given_up += u64::from(raised - given_up);
-        release(&mut self.claims, s);
+        self.work.given_up += u64::from(raised - given_up);
+        self.claims.release(s);
     }
 }
 

@@ -3,7 +3,8 @@ ghost use Rattle.std.specs.Prelude.{◌≡◌, ◌+◌, ◌-◌, ◌<◌, ◌≤
 ghost use Rattle.heap_store.specs.declared.nodes.Node.{Node};
 ghost use Rattle.heap_store.specs.Plain.{fresh_node};
 ghost use Rattle.lazy_rec.specs.declared.records.Rec.{Rec};
-ghost use Rattle.heap_store.specs.Slots.{HasStepsOf, state_in, node_in, at_place};
+ghost use Rattle.heap_store.specs.Budget.{node_count_of};
+ghost use Rattle.heap_store.specs.Slots.{HasStepsOf, state_in, node_in, at_place, published_in};
 
 use crate::nodes::Node;
 use lazy_rec::{Rec, Ref, SuspState};
@@ -77,9 +78,17 @@ fn fresh(rec: Rec) -> Slot
     }
 }
 
+/// One for a slot that shows nothing.
+fn gap_in(slot: &Slot) -> u32
+    ensures { result + node_count_of (node_in slot.now) ≡ 1 }
+{
+    match slot.state {
+        SlotState::Free => 1,
+        SlotState::Unforced { .. } | SlotState::Claimed { .. } | SlotState::Done { .. } => 0,
+    }
+}
+
 /// Puts free slots behind the others, so that there are at least so many.
-#[cold]
-#[inline(never)]
 fn fill_to(slots: &mut Vec<Slot>, len: usize)
     requires { len ≤ vec_capacity slots.old }
     ensures items { slots.new.items ≡ slots.old.items ++ replicate (len - length slots.old.items) FREE }
@@ -91,23 +100,25 @@ fn fill_to(slots: &mut Vec<Slot>, len: usize)
 }
 
 /// The drawn places, up to so many as there is room for. A slot is written when its place is published, and before it only where a
-/// later place is published first: drawing places costs nothing.
+/// later place is published first: drawing places costs nothing. So as many places are published as there are slots, less the
+/// gaps, which are the free ones among them.
 #[derive(Drop)]
 pub struct DrawnPlaces {
     slots: Vec<Slot>,
+    gaps: u32,
     drawn: u32,
     room: u32,
 }
 
 impl Model for DrawnPlaces {
-    ghost use Rattle.std.specs.Prelude.{◌≤◌, length, vec_capacity};
-    ghost use Rattle.heap_store.specs.Slots.{PlacesView, shown_in};
+    ghost use Rattle.std.specs.Prelude.{◌≡◌, ◌+◌, ◌≤◌, length, vec_capacity};
+    ghost use Rattle.heap_store.specs.Slots.{PlacesView, shown_in, published_in};
 
     ghost Value = { PlacesView };
 
     ghost view = { λ p. record { shown = shown_in p.slots.items p.drawn; room = p.room } };
 
-    ghost invariant = { λ p. (length p.slots.items ≤ p.drawn) × (p.drawn ≤ p.room) × (p.room ≤ vec_capacity p.slots) };
+    ghost invariant = { λ p. (length p.slots.items ≤ p.drawn) × (p.drawn ≤ p.room) × (p.room ≤ vec_capacity p.slots) × (p.gaps + published_in (shown_in p.slots.items p.drawn) ≡ length p.slots.items) };
 }
 
 impl DrawnPlaces {
@@ -118,6 +129,7 @@ impl DrawnPlaces {
         let slots = Vec::with_capacity(alloc, room as usize)?;
         Ok(DrawnPlaces {
             slots,
+            gaps: 0,
             drawn: 0,
             room,
         })
@@ -130,6 +142,13 @@ impl DrawnPlaces {
         ensures few { result ≤ self.now.room }
     {
         self.drawn
+    }
+
+    /// How many places are published. No place is looked at.
+    pub fn published(&self) -> u64
+        ensures { result ≡ published_in self.now.shown }
+    {
+        self.slots.len() as u64 - u64::from(self.gaps)
     }
 
     /// How many places there is room for.
@@ -194,13 +213,29 @@ impl DrawnPlaces {
         requires { place.0 < length self.old.shown }
         ensures { self.new ≡ record self.old { shown = slice_set self.old.shown place.0 (fresh_node rec) } }
     {
-        let at = place.0 as usize;
-        if at == self.slots.len() {
+        if place.0 as usize == self.slots.len() {
             self.slots.push_reserved(fresh(rec));
         } else {
-            fill_to(&mut self.slots, at + 1);
-            self.slots[at] = fresh(rec);
+            // The slot is made on this way alone: a record that is handed to a call is written to the stack on the other way too.
+            self.publish_apart(place, fresh(rec));
         }
+    }
+
+    /// Publishes a place other than the one behind the last slot. It has a slot, or gets one behind free ones for the places before
+    /// it: these are gaps.
+    #[cold]
+    #[inline(never)]
+    fn publish_apart(&mut self, place: Ref, slot: Slot)
+        requires drawn { place.0 < length self.old.shown }
+        requires shows { node_count_of (node_in slot) ≡ 1 }
+        ensures { self.new ≡ record self.old { shown = slice_set self.old.shown place.0 (node_in slot) } }
+    {
+        let at = place.0 as usize;
+        let before = self.slots.len();
+        fill_to(&mut self.slots, at + 1);
+        self.gaps += (self.slots.len() - before) as u32;
+        self.gaps -= gap_in(&self.slots[at]);
+        self.slots[at] = slot;
     }
 
     /// Gives a published place another state. What is done took the steps that its record tells.

@@ -1,6 +1,5 @@
-use Rattle.std.proofs.Common.{arith, ◌≡◌, Option, Some, ap, reverse, ◌<◌, length, ◌∙◌, ◌∷◌, [], true}
+use Rattle.std.proofs.Common.{arith, ◌≡◌, Option, Some, ap, ◌∙◌, true}
 use Rattle.std.specs.Prelude.{option_and_then}
-use Rattle.std.proofs.lemmas.List.{reverse-append, length-reverse}
 use Rattle.lazy_rec.specs.declared.records.Rec.{Rec}
 use Rattle.lazy_rec.specs.declared.states.SuspState.{SuspState}
 use Rattle.lazy_rec.specs.declared.states.SuspState.TheVariants.{Unforced, Claimed, Done}
@@ -8,7 +7,6 @@ use Rattle.lazy_rec.specs.Named.{is_pending}
 use Rattle.lazy_rec.specs.States.{kept}
 use Rattle.heap_store.specs.declared.nodes.Node.{Node}
 use Rattle.heap_store.specs.World.{node_at}
-use Rattle.heap_store.specs.Hand.{fresh_claim}
 use Rattle.heap_store.specs.Budget.{is_funded}
 use Rattle.heap_store.specs.Plain.{IsPlain, plain_world, is_claimed_node}
 use Rattle.heap_store.proofs.Steps.{Quiet_refl}
@@ -36,15 +34,12 @@ paid c =
     let w = plain_world h.capacity h.row_capacity h.nodes.shown h.rows.items in
     passed_at w c.args.s.0 (is_funded w c.args.s.0) (record { rec = (node c).0; state = Unforced c.in-Unforced.given_up }) (here c) c.requires.funded
 
-claims_after : (c : After-add) → reverse c.add.new.values.items ≡ fresh_claim c.args.s ∷ reverse c.args.self.now.claims.items
-claims_after c = ap reverse c.add.ensures.items ∙ reverse-append c.args.self.now.claims.items (fresh_claim c.args.s ∷ [])
-
-now_plain : (c : After-add) → IsPlain c.args.self.now.capacity c.args.self.now.row_capacity c.set_state.new.self.shown (reverse c.add.new.values.items) c.args.self.now.rows.items
+now_plain : (c : After-add) → IsPlain c.args.self.now.capacity c.args.self.now.row_capacity c.set_state.new.self.shown c.add.new.self.held c.args.self.now.rows.items
 now_plain c =
     let h = c.args.self.now in
     let i = (goal.at.invariant_of-self-clause-plain c).In-Unforced in
     let set : c.set_state.new.self ≡ with_state h.nodes c.args.s.0 (node i).0 (Claimed c.in-Unforced.given_up) = c.set_state.ensures (record { rec = (node i).0; state = Unforced c.in-Unforced.given_up }) (node i).1 in
-    rw (claims_after c, set) (won_plain h.capacity h.row_capacity h.nodes.shown (reverse h.claims.items) h.rows.items h.plain h.open_rows.items h.refused h.last c.args.s (node i).0 c.in-Unforced.given_up (here i) (pending i) (paid i))
+    rw (c.add.ensures, set) (won_plain h.capacity h.row_capacity h.nodes.shown h.claims.held h.rows.items h.plain h.open_rows.items h.refused h.last c.args.s (node i).0 c.in-Unforced.given_up (here i) (pending i) (paid i))
 
 pub state-requires : goal.state-requires
 state-requires c = let h = c.args.self.now in shown_read h.capacity h.row_capacity h.nodes.shown h.rows.items c.args.s.0 is_pending c.requires.pending
@@ -56,9 +51,8 @@ pub add-requires : goal.add-requires
 add-requires c =
     let h = c.args.self.now in
     let i = (goal.at.add-requires c).In-Unforced in
-    let l = room_left h.capacity h.row_capacity h.nodes.shown (reverse h.claims.items) h.rows.items h.plain h.open_rows.items h.refused h.last c.args.s (node i).0 c.in-Unforced.given_up (here i) (pending i) (paid i) in
-    let l' : length h.claims.items < length h.nodes.shown = rw length-reverse at l in
-    omega (arith, l', h.plain.fits, h.claim_room, h.claims.ok.0)
+    let l = room_left h.capacity h.row_capacity h.nodes.shown h.claims.held h.rows.items h.plain h.open_rows.items h.refused h.last c.args.s (node i).0 c.in-Unforced.given_up (here i) (pending i) (paid i) in
+    omega (arith, l, h.plain.fits, h.claim_room)
 
 pub invariant_of-self-clause-node_room : goal.invariant_of-self-clause-node_room
 invariant_of-self-clause-node_room c =
@@ -68,7 +62,7 @@ invariant_of-self-clause-node_room c =
     rw set h.node_room
 
 pub invariant_of-self-clause-claim_room : goal.invariant_of-self-clause-claim_room
-invariant_of-self-clause-claim_room c = omega (arith, c.add.ensures.room, c.args.self.now.claim_room)
+invariant_of-self-clause-claim_room c = rw c.add.ensures c.args.self.now.claim_room
 
 pub invariant_of-self-clause-plain : goal.invariant_of-self-clause-plain
 invariant_of-self-clause-plain c = now_plain c
@@ -79,7 +73,7 @@ invariant_of-self-clause-counted c =
     let i = (goal.at.invariant_of-self-clause-counted c).In-Unforced in
     let set : c.set_state.new.self ≡ with_state h.nodes c.args.s.0 (node i).0 (Claimed c.in-Unforced.given_up) = c.set_state.ensures (record { rec = (node i).0; state = Unforced c.in-Unforced.given_up }) (node i).1 in
     let within = within_read h.capacity h.row_capacity h.nodes.shown h.rows.items c.args.s.0 is_pending c.requires.pending in
-    rw set (won_counted h.nodes.shown h.counts c.args.s.0 within h.counted (node i).0 c.in-Unforced.given_up (node i).1)
+    rw set (won_counted h.nodes.shown h.work c.args.s.0 within h.counted (node i).0 c.in-Unforced.given_up (node i).1)
 
 pub invariant_of-self-clause-law : goal.invariant_of-self-clause-law
 invariant_of-self-clause-law c = let h = c.args.self.now in plain_lawful h.capacity h.row_capacity _ _ h.rows.items (now_plain c) h.open_rows.items h.refused h.last h.law.open_in h.law.refused
@@ -89,7 +83,7 @@ returns-in-Unforced c =
     let h = c.args.self.now in
     let i = (goal.at.returns-in-Unforced c).In-Unforced in
     let set : c.set_state.new.self ≡ with_state h.nodes c.args.s.0 (node i).0 (Claimed c.in-Unforced.given_up) = c.set_state.ensures (record { rec = (node i).0; state = Unforced c.in-Unforced.given_up }) (node i).1 in
-    rw (claims_after (goal.at.returns-in-Unforced c).After-add, set) (won_view h.capacity h.row_capacity h.nodes.shown (reverse h.claims.items) h.rows.items h.plain h.open_rows.items h.refused h.last c.args.s (node i).0 c.in-Unforced.given_up (here i) (pending i) (paid i))
+    rw (c.add.ensures, set) (won_view h.capacity h.row_capacity h.nodes.shown h.claims.held h.rows.items h.plain h.open_rows.items h.refused h.last c.args.s (node i).0 c.in-Unforced.given_up (here i) (pending i) (paid i))
 
 pub returns-in-Claimed : goal.returns-in-Claimed
 returns-in-Claimed c =
