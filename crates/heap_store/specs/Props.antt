@@ -27,7 +27,7 @@ Kind-set = hlevel (⊎_set, props)
 Op-set : IsSet Op
 Op-set = hlevel (Kind-set, ⊎_set, props)
 
-Event-set : IsSet Event
+pub Event-set : IsSet Event
 Event-set = hlevel (Op-set, props)
 
 Reply-set : IsSet Reply
@@ -42,7 +42,7 @@ Version-set = hlevel (Kind-set, props)
 Ending-set : IsSet Ending
 Ending-set = hlevel (Version-set, Reply-set, ⊎_set, props)
 
-Row-set : IsSet Row
+pub Row-set : IsSet Row
 Row-set = hlevel (Event-set, Ending-set, props)
 
 pub IsLegal-prop : (w : World) → IsProp (IsLegal w)
@@ -54,7 +54,7 @@ IsLawful-prop w = hlevel (Entry-set, props)
 pub HasRoots-prop : (w : World) → IsProp (HasRoots w)
 HasRoots-prop w = hlevel props
 
-IsLawfulHand-prop : (w : World) (h : Hand) → IsProp (IsLawfulHand w h)
+pub IsLawfulHand-prop : (w : World) (h : Hand) → IsProp (IsLawfulHand w h)
 IsLawfulHand-prop w h = hlevel props
 
 pub IsLawfulView-prop : (v : View) → IsProp (IsLawfulView v)
