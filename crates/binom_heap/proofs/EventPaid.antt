@@ -16,13 +16,14 @@ use Rattle.lazy_rec.specs.Meaning.{means}
 use Rattle.lazy_rec.specs.Plain.{told}
 use Rattle.lazy_rec.specs.Named.{is_pending}
 use Rattle.heap_store.specs.declared.jobs.Stage.TheVariants.{Start, HeapPaid}
+use Rattle.heap_store.specs.declared.jobs.Cursor.{Cursor}
 use Rattle.heap_store.specs.declared.jobs.EventJob.{EventJob}
 use Rattle.heap_store.specs.Span.{Span}
 use Rattle.heap_store.specs.LookedAt.{looked_at, has_looked}
 use Rattle.lazy_rec.specs.Due.{may_force}
 use Rattle.heap_store.specs.World.{World, recs, holds, is_value}
 use Rattle.heap_store.specs.Values.{value_place}
-use Rattle.heap_store.specs.Forest.{forest}
+use Rattle.heap_store.specs.Forest.{Forest, forest}
 use Rattle.heap_store.proofs.LawfulLaws.{lawful_names}
 use Rattle.heap_store.proofs.MadeLaws.{forest_kept}
 use Rattle.binom_heap.proofs.ListValues.{list_there, known_place, value_place_up}
@@ -37,7 +38,10 @@ use Rattle.heap_store.proofs.ShowLaws.{one_value}
 use Rattle.heap_store.proofs.ValueLaws.{Waits}
 use Rattle.binom_heap.specs.declared.heap.Top.{Top}
 use Rattle.binom_heap.specs.Work.{is_heap_work}
-use Rattle.binom_heap.specs.Heap.{top_record, start_places, paid_places, looks_at_trees, is_known_list, IsNewTop, IsReadyEvent}
+use Rattle.binom_heap.specs.Heap.{top_record, start_places, paid_places, looks_at_trees, is_known_list, IsNewTop, IsReadyEvent, PointsAt, IsReadyWith}
+use Rattle.binom_heap.specs.Removal.{Least, least_of, StandsAt}
+use Rattle.binom_heap.proofs.TreeLaws.{trees_there}
+use Rattle.binom_heap.proofs.Lesser.{stands_up}
 use Rattle.binom_heap.proofs.WorkLaws.{list_work}
 use Rattle.binom_heap.proofs.Tops.{old_top, new_top}
 use Rattle.binom_heap.proofs.TopGains.{paid_list}
@@ -200,6 +204,23 @@ paid_base {v} {job} {run} b kind top stage =
           let same : q.0 ≡ place = one_value q.0 place (sym (value_place_up x k.list.0 q.0 there q.1) ∙ at) in
           omega (arith, same, b.above q.0 q.2.0 q.2.1));
     }
+
+-- the tree at which the cursor points, in a place below the run
+pub record IsTold (v : View) (run : Span) (f : Forest) (l : Least) (cursor : Cursor) : Type 0 where
+  pub stands : StandsAt v.seen f l cursor.place.0 cursor.passed
+  pub low : cursor.place.0 < run.next
+
+pub told_least : {v : View} {job : EventJob} {run : Span} {cursor : Cursor} → (b : IsEventBuildable (IsReadyWith cursor) v job run) → job.op ≡ ops.Delmin → (top : Ref) → job.stage ≡ HeapPaid top → (l : Least) → least_of (forest (recs v.seen) top.0) ≡ Some l → IsTold v run (forest (recs v.seen) top.0) l cursor
+told_least {v} {job} {run} {cursor} b op top stage l is =
+    let well : StageWell b.base job (HeapPaid top) = rw stage at b.base_job.stage in
+    let told : PointsAt b.base (forest (recs b.base) top.0) (least_of (forest (recs b.base) top.0)) cursor = rw (op, stage) at b.base_ready.least in
+    let k = paid_top {w = b.base} job top well in
+    let x = b.base_grows in
+    let kept = forest_kept (recs b.base) (recs v.seen) (lawful_names b.base_lawful) x.records top.0 (HeapTop k.list k.base.size 0, k.here) in
+    let here : least_of (forest (recs b.base) top.0) ≡ Some l = ap least_of kept ∙ is in
+    let s : StandsAt b.base (forest (recs b.base) top.0) l cursor.place.0 cursor.passed = rw here at told in
+    let there = trees_there (recs b.base) cursor.place.0 s.trees in
+    record { stands = stands_up b.base_lawful x kept s; low = b.above cursor.place.0 there.0 there.1 }
 
 -- a min makes nothing more
 pub no_removal : {v : View} {job : EventJob} {run : Span} {top : Ref} → PaidBase v job run top → job.op ≡ ops.Min → run.next ≡ run.end

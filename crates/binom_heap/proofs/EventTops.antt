@@ -13,6 +13,7 @@ use Rattle.lazy_rec.proofs.NumberLaws.{same_kind-eq}
 use Rattle.heap_store.specs.declared.versions.Version.{Version}
 use Rattle.heap_store.specs.declared.jobs.Stage.{Stage}
 use Rattle.heap_store.specs.declared.jobs.Stage.TheVariants.{Start, HeapPaid, Parts, Root}
+use Rattle.heap_store.specs.declared.jobs.Cursor.{Cursor}
 use Rattle.heap_store.specs.declared.jobs.EventJob.{EventJob}
 use Rattle.heap_store.specs.declared.jobs.After.{After}
 use Rattle.heap_store.specs.declared.jobs.After.TheVariants.{End}
@@ -29,7 +30,8 @@ use Rattle.heap_store.proofs.GrowthLaws.{at_true}
 use Rattle.heap_store.proofs.ReadLaws.{rec_back}
 use Rattle.heap_store.proofs.Steps.{Filled-none, Filled-quiet}
 use Rattle.binom_heap.specs.declared.heap.Top.{Top}
-use Rattle.binom_heap.specs.Heap.{top_record, start_places, paid_places, looks_at_trees, is_known_list, ends_at, IsReadyEvent}
+use Rattle.binom_heap.specs.Heap.{top_record, start_places, paid_places, looks_at_trees, is_known_list, ends_at, IsReadyEvent, PointsAt, TellsLeastAt, IsReadyWith}
+use Rattle.binom_heap.specs.Removal.{least_of}
 use Rattle.binom_heap.proofs.Tops.{old_top, top_of_root}
 
 -- ---- operations and stages
@@ -152,11 +154,23 @@ no_nodes b stage none = omega (arith, b.size, start_nodes b stage, none)
 
 -- ---- what a prepare answers
 
-pub ready_start : (w : World) (job : EventJob) (nodes : ℕ) → job.stage ≡ Start → nodes ≡ start_places job.op job.base.size job.other.size → IsReadyEvent w job nodes
-ready_start w job nodes stage n = record { ready = rw stage n }
+pub ready_start : (w : World) (job : EventJob) (nodes : ℕ) → job.stage ≡ Start → nodes ≡ start_places job.op job.base.size job.other.size → (cursor : Cursor) → IsReadyWith cursor w job nodes
+ready_start w job nodes stage n cursor = record { ready = record { ready = rw stage n }; least = start_tells job.op }
+  where
+    start_tells : (op : Op) → TellsLeastAt w cursor op job.stage
+    start_tells ops.Delmin = rw stage tt
+    start_tells _ = tt
 
-pub ready_paid : (w : World) (job : EventJob) (top : Ref) (nodes : ℕ) → job.stage ≡ HeapPaid top → holds (recs w) top.0 (is_known_list w) ≡ true → nodes ≡ paid_places job.op job.base.size (forest (recs w) top.0) → IsReadyEvent w job nodes
-ready_paid w job top nodes stage known n = record { ready = rw stage (known, n) }
+pub ready_paid : (w : World) (job : EventJob) (top : Ref) (nodes : ℕ) → job.stage ≡ HeapPaid top → holds (recs w) top.0 (is_known_list w) ≡ true → nodes ≡ paid_places job.op job.base.size (forest (recs w) top.0) → (cursor : Cursor) → (job.op ≡ ops.Delmin → PointsAt w (forest (recs w) top.0) (least_of (forest (recs w) top.0)) cursor) → IsReadyWith cursor w job nodes
+ready_paid w job top nodes stage known n cursor least = record { ready = record { ready = rw stage (known, n) }; least = paid_tells job.op least }
+  where
+    paid_tells : (op : Op) → (op ≡ ops.Delmin → PointsAt w (forest (recs w) top.0) (least_of (forest (recs w) top.0)) cursor) → TellsLeastAt w cursor op job.stage
+    paid_tells ops.Delmin least = rw stage (least refl)
+    paid_tells _ least = tt
+
+-- what is ready with the cursor is ready
+pub plain_build : {cursor : Cursor} {v : View} {job : EventJob} {run : Span} → IsEventBuildable (IsReadyWith cursor) v job run → IsEventBuildable IsReadyEvent v job run
+plain_build b = record { base = b.base; base_lawful = b.base_lawful; base_grows = b.base_grows; base_job = b.base_job; nodes = b.nodes; base_ready = b.base_ready.ready; above = b.above; size = b.size; held = b.held; credits = b.credits }
 
 pub size_nodes : (job : EventJob) → job.op ≡ ops.Size → start_places job.op job.base.size job.other.size ≡ 0
 size_nodes job op = rw op refl

@@ -21,10 +21,10 @@ no_means {w} law list only none = go (trees_case law list only)
     go (cell tree rest e more) = absurd (let k = cell_tree law list tree rest e in let z : a_tree k.tree.rank k.tree.item.0 (forest (recs w) k.tree.kids.0) (forest (recs w) rest.0) ≡ no_trees = sym k.trees ∙ none in cc)
 
 -- the least root is the least item
-pub least_item : {w : World} → IsLawful w → (list : ℕ) → is_trees_only (recs w) list ≡ true → (o : Option LeastTree) → IsLeast w list (least_of (forest (recs w) list)) o → slice_get (means (recs w) list) 0 ≡ option_map (λ (t : LeastTree). t.tree.item.0) o
+pub least_item : {w : World} → IsLawful w → (list : ℕ) → is_trees_only (recs w) list ≡ true → (o : Option LeastTree) → IsLeast w list (least_of (forest (recs w) list)) o → slice_get (means (recs w) list) 0 ≡ option_map (λ (t : LeastTree). t.item.0) o
 least_item {w} law list only o h = go (least_of (forest (recs w) list)) refl o h
   where
-    go : (l : Option Least) → least_of (forest (recs w) list) ≡ l → (o : Option LeastTree) → IsLeast w list l o → slice_get (means (recs w) list) 0 ≡ option_map (λ (t : LeastTree). t.tree.item.0) o
+    go : (l : Option Least) → least_of (forest (recs w) list) ≡ l → (o : Option LeastTree) → IsLeast w list l o → slice_get (means (recs w) list) 0 ≡ option_map (λ (t : LeastTree). t.item.0) o
     go None e None h = let z = no_means law list only (none_found _ e) in rw z refl
     go None e (Some t) h = absurd h
     go (Some l) e None h = absurd h

@@ -1,24 +1,21 @@
 -- The tree with the least root of a list, by going through it.
-use Rattle.std.proofs.Common.{◌≡◌, ℕ, suc, ◌+◌, ◌<◌, ◌≤◌, ltb, leb, refl, sym, ap, ◌∙◌, arith, Bool, true, false, cond, ◌&&◌, Option, Some, None}
+use Rattle.std.proofs.Common.{◌≡◌, ℕ, zero, suc, ◌+◌, ◌<◌, ◌≤◌, ltb, leb, refl, sym, ap, ◌∙◌, arith, Bool, true, false, cond, ◌&&◌, Option, Some, None}
 use Rattle.std.proofs.lemmas.Bool.{and_parts, leb-true, lt-ltb, ltb-true}
 use Rattle.std.proofs.lemmas.Grind.{common_steps}
+use Rattle.lazy_rec.specs.declared.places.Ref.{Ref}
 use Rattle.heap_store.specs.World.{World, recs}
-use Rattle.heap_store.specs.Forest.{Forest, no_trees, forest, is_trees_only, ranks_rise}
+use Rattle.heap_store.specs.Forest.{Forest, no_trees, a_tree, forest, is_trees_only, ranks_rise}
 use Rattle.heap_store.specs.Growth.{Grows}
 use Rattle.heap_store.specs.Lawful.{IsLawful}
 use Rattle.binom_heap.specs.declared.trees.FirstTree.{FirstTree}
 use Rattle.binom_heap.specs.declared.removal.LeastTree.{LeastTree}
-use Rattle.binom_heap.specs.Trees.{tree_record, IsFirst}
-use Rattle.binom_heap.specs.Removal.{Least, least_step, least_of, IsFound, IsLeast}
+use Rattle.binom_heap.specs.Trees.{IsFirst}
+use Rattle.binom_heap.specs.Removal.{Least, least_step, least_of, behind, StandsAt, IsFound, IsLeast}
 use Rattle.binom_heap.proofs.FirstTrees.{FirstIs, first_is}
 use Rattle.binom_heap.proofs.ForestLaws.{rise_lower}
-use Rattle.binom_heap.proofs.Linking.{forest_up, kids_up}
+use Rattle.binom_heap.proofs.Linking.{forest_up, only_up}
 
 -- ---- roots that are compared in order
-
--- a tree that was found, as one of a list
-abbrev pub found_at : World → LeastTree → Least
-found_at w t = record { before = t.before; rank = t.tree.rank; item = t.tree.item.0; kids = forest (recs w) t.tree.kids.0 }
 
 -- of a tree and of what is found in a list that stands behind so many, the lesser root, of equal ones the first
 abbrev pub lesser : Least → ℕ → Option Least → Least
@@ -58,17 +55,33 @@ lesser_first r x k (Some m) = go (ltb m.item x)
     go true = let z : m.before + 1 ≡ suc m.before = omega arith in rw z refl
     go false = refl
 
+-- ---- where a tree stands
+
+-- behind a tree that stands behind so many
+pub behind_next : (n : ℕ) (f : Forest) (r x : ℕ) (k more : Forest) → behind n f ≡ a_tree r x k more → behind (suc n) f ≡ more
+behind_next zero f r x k more e = ap (behind 1) e
+behind_next (suc n) no_trees r x k more e = absurd (let z : no_trees ≡ a_tree r x k more = e in cc)
+behind_next (suc n) (a_tree _ _ _ rest) r x k more e = behind_next n rest r x k more e
+
+-- a tree stands where it stood in a larger world
+pub stands_up : {a b : World} {f g : Forest} {l : Least} {place before : ℕ} → IsLawful a → Grows a b → f ≡ g → StandsAt a f l place before → StandsAt b g l place before
+stands_up {l = l} {place = place} law x same s = record {
+  before_is = s.before_is;
+  trees = only_up law x place s.trees;
+  forest_is = forest_up law x place s.trees ∙ (s.forest_is ∙ ap (λ z. a_tree l.rank l.item l.kids (behind (suc l.before) z)) same);
+}
+
 -- ---- the trees of a list
 
--- the first tree with the least root of all is that of a published tree and of those that are left, behind so many
+-- the first tree with the least root of all is this one and those that are left, behind so many
 pub record IsLeastSoFar (w : World) (list : ℕ) (t : LeastTree) (passed left : ℕ) : Type 0 where
-  pub there : recs w t.tree.place.0 ≡ Some (tree_record t.tree)
-  pub low : t.tree.place.0 < list
-  pub early : t.before ≤ t.tree.rank
+  pub l : Least
+  pub found : IsFound w list l t
   pub left_low : left < list
   pub only : is_trees_only (recs w) left ≡ true
   pub rise : ranks_rise passed (forest (recs w) left) ≡ true
-  pub is : least_of (forest (recs w) list) ≡ Some (lesser (found_at w t) passed (least_of (forest (recs w) left)))
+  pub left_is : forest (recs w) left ≡ behind passed (forest (recs w) list)
+  pub is : least_of (forest (recs w) list) ≡ Some (lesser l passed (least_of (forest (recs w) left)))
 
 -- the ranks behind a list's first tree rise on, and as many trees may stand before it as its rank allows
 pub record RestRises (w : World) (passed : ℕ) (f : FirstTree) : Type 0 where
@@ -84,55 +97,72 @@ rest_rises {w} law passed list f only i rise =
     let early = leb-true passed f.tree.rank p.0 in
     record { rest = rise_lower (passed + 1) (suc f.tree.rank) _ (omega (arith, early)) p.1; early = early }
 
-abbrev pub here_at : ℕ → FirstTree → LeastTree
-here_at n f = record { before = n; tree = f.tree }
+abbrev pub here_at : ℕ → Ref → FirstTree → LeastTree
+here_at n list f = record { before = n; at = list; item = f.tree.item }
 
 -- the first tree of all
-pub so_far_first : {w : World} → IsLawful w → (list : ℕ) (f : FirstTree) → is_trees_only (recs w) list ≡ true → IsFirst w list f → ranks_rise 0 (forest (recs w) list) ≡ true → IsLeastSoFar w list (here_at 0 f) 1 f.rest.0
+pub so_far_first : {w : World} → IsLawful w → (list : Ref) (f : FirstTree) → is_trees_only (recs w) list.0 ≡ true → IsFirst w list.0 f → ranks_rise 0 (forest (recs w) list.0) ≡ true → IsLeastSoFar w list.0 (here_at 0 list f) 1 f.rest.0
 so_far_first {w} law list f only i rise =
-    let first = first_is law list f only i in
+    let first = first_is law list.0 f only i in
+    let kids = forest (recs w) f.tree.kids.0 in
+    let after = sym (behind_next 0 (forest (recs w) list.0) f.tree.rank f.tree.item.0 kids (forest (recs w) f.rest.0) first.trees) in
     record {
-      there = i.tree;
-      low = first.tree_low;
-      early = omega arith;
+      l = tree_at 0 f.tree.rank f.tree.item.0 kids;
+      found = record {
+        stands = record { before_is = refl; trees = only; forest_is = first.trees ∙ ap (a_tree f.tree.rank f.tree.item.0 kids) after };
+        low = omega arith;
+        item = refl;
+      };
       left_low = first.rest_low;
       only = first.rest_only;
-      rise = (rest_rises law 0 list f only i rise).rest;
-      is = ap least_of first.trees ∙ lesser_first f.tree.rank f.tree.item.0 (forest (recs w) f.tree.kids.0) (least_of (forest (recs w) f.rest.0));
+      rise = (rest_rises law 0 list.0 f only i rise).rest;
+      left_is = after;
+      is = ap least_of first.trees ∙ lesser_first f.tree.rank f.tree.item.0 kids (least_of (forest (recs w) f.rest.0));
     }
 
 -- one tree more is compared
-pub so_far_next : {w : World} → IsLawful w → (list : ℕ) (t : LeastTree) (passed left : ℕ) → IsLeastSoFar w list t passed left → (f : FirstTree) → IsFirst w left f → (best : LeastTree) → best ≡ cond (ltb f.tree.item.0 t.tree.item.0) (here_at passed f) t → IsLeastSoFar w list best (passed + 1) f.rest.0
-so_far_next {w} law list t passed left k f i best best_is = by (ltb f.tree.item.0 t.tree.item.0) refl best_is
+pub so_far_next : {w : World} → IsLawful w → (list : ℕ) (t : LeastTree) (passed : ℕ) (left : Ref) → IsLeastSoFar w list t passed left.0 → (f : FirstTree) → IsFirst w left.0 f → (best : LeastTree) → best ≡ cond (ltb f.tree.item.0 t.item.0) (here_at passed left f) t → IsLeastSoFar w list best (passed + 1) f.rest.0
+so_far_next {w} law list t passed left k f i best best_is = by (ltb f.tree.item.0 t.item.0) refl best_is
   where
-    first : FirstIs w left f
-    first = first_is law left f k.only i
+    first : FirstIs w left.0 f
+    first = first_is law left.0 f k.only i
 
     rises : RestRises w passed f
-    rises = rest_rises law passed left f k.only i k.rise
+    rises = rest_rises law passed left.0 f k.only i k.rise
 
-    step : (b : Bool) → ltb f.tree.item.0 t.tree.item.0 ≡ b → least_of (forest (recs w) list) ≡ Some (lesser (cond b (found_at w (here_at passed f)) (found_at w t)) (passed + 1) (least_of (forest (recs w) f.rest.0)))
+    after : forest (recs w) f.rest.0 ≡ behind (suc passed) (forest (recs w) list)
+    after = sym (behind_next passed (forest (recs w) list) f.tree.rank f.tree.item.0 (forest (recs w) f.tree.kids.0) (forest (recs w) f.rest.0) (sym k.left_is ∙ first.trees))
+
+    after_one : forest (recs w) f.rest.0 ≡ behind (passed + 1) (forest (recs w) list)
+    after_one = let z : passed + 1 ≡ suc passed = omega arith in rw z after
+
+    step : (b : Bool) → ltb f.tree.item.0 t.item.0 ≡ b → least_of (forest (recs w) list) ≡ Some (lesser (cond b (tree_at passed f.tree.rank f.tree.item.0 (forest (recs w) f.tree.kids.0)) k.l) (passed + 1) (least_of (forest (recs w) f.rest.0)))
     step b e =
-        let all = k.is ∙ ap (λ (z : Forest). Some (lesser (found_at w t) passed (least_of z))) first.trees in
-        all ∙ ap Some (sym (lesser_step (found_at w t) passed f.tree.rank f.tree.item.0 (forest (recs w) f.tree.kids.0) (least_of (forest (recs w) f.rest.0)) b e))
+        let item = k.found.item in
+        let all = k.is ∙ ap (λ (z : Forest). Some (lesser k.l passed (least_of z))) first.trees in
+        all ∙ ap Some (sym (lesser_step k.l passed f.tree.rank f.tree.item.0 (forest (recs w) f.tree.kids.0) (least_of (forest (recs w) f.rest.0)) b (ap (ltb f.tree.item.0) (sym item) ∙ e)))
 
-    by : (b : Bool) → ltb f.tree.item.0 t.tree.item.0 ≡ b → best ≡ cond b (here_at passed f) t → IsLeastSoFar w list best (passed + 1) f.rest.0
+    by : (b : Bool) → ltb f.tree.item.0 t.item.0 ≡ b → best ≡ cond b (here_at passed left f) t → IsLeastSoFar w list best (passed + 1) f.rest.0
     by true e z = rw z (record {
-      there = i.tree;
-      low = omega (arith, first.tree_low, k.left_low);
-      early = rises.early;
+      l = tree_at passed f.tree.rank f.tree.item.0 (forest (recs w) f.tree.kids.0);
+      found = record {
+        stands = record { before_is = refl; trees = k.only; forest_is = first.trees ∙ ap (a_tree f.tree.rank f.tree.item.0 (forest (recs w) f.tree.kids.0)) after };
+        low = omega (arith, k.left_low);
+        item = refl;
+      };
       left_low = omega (arith, first.rest_low, k.left_low);
       only = first.rest_only;
       rise = rises.rest;
+      left_is = after_one;
       is = step true e;
     })
     by false e z = rw z (record {
-      there = k.there;
-      low = k.low;
-      early = k.early;
+      l = k.l;
+      found = k.found;
       left_low = omega (arith, first.rest_low, k.left_low);
       only = first.rest_only;
       rise = rises.rest;
+      left_is = after_one;
       is = step false e;
     })
 
@@ -140,14 +170,6 @@ so_far_next {w} law list t passed left k f i best best_is = by (ltb f.tree.item.
 pub so_far_all : {a b : World} → IsLawful a → Grows a b → (list : ℕ) → is_trees_only (recs a) list ≡ true → (t : LeastTree) (passed left : ℕ) → IsLeastSoFar a list t passed left → forest (recs a) left ≡ no_trees → IsLeast b list (least_of (forest (recs b) list)) (Some t)
 so_far_all {a} {b} law x list only t passed left k none =
     let all = forest_up law x list only in
-    let is = k.is ∙ ap (λ (z : Forest). Some (lesser (found_at a t) passed (least_of z))) none in
-    let found : IsFound b list (found_at a t) t = record {
-      there = x.records _ _ k.there;
-      low = k.low;
-      before = refl;
-      rank = refl;
-      item = refl;
-      kids = kids_up law x t.tree.place.0 t.tree k.there;
-      early = k.early;
-    } in
+    let is = k.is ∙ ap (λ (z : Forest). Some (lesser k.l passed (least_of z))) none in
+    let found : IsFound b list k.l t = record { stands = stands_up law x (sym all) k.found.stands; low = k.found.low; item = k.found.item } in
     rw (all, is) found

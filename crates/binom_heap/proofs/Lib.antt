@@ -24,7 +24,7 @@ pub mod EventTops
 pub mod EventMakes
 pub mod Least
 pub mod EventPaid
-pub mod Dropping
+pub mod PutAgain
 pub mod Lesser
 pub mod Removing
 pub mod Sides

@@ -5,23 +5,27 @@ use Rattle.std.proofs.lemmas.Grind.{common_steps}
 use Rattle.std.proofs.lemmas.List.Folds.{list_all-append}
 use Rattle.std.proofs.lemmas.Bool.{and_parts, and_from, eq-eqb, leb-true, le-leb, lt-leb, cond-true, cond-false}
 use Rattle.lazy_rec.specs.declared.places.Ref.{Ref}
+use Rattle.lazy_rec.specs.declared.records.Rec.{Rec}
 use Rattle.lazy_rec.specs.declared.records.Rec.TheVariants.{TCons}
+use Rattle.lazy_rec.specs.declared.records.Sort.TheVariants as sorts
+use Rattle.lazy_rec.specs.Named.{sort_of, same_sort}
 use Rattle.lazy_rec.specs.Meaning.{means}
 use Rattle.lazy_rec.specs.Plain.{insert_rising, rising}
 use Rattle.heap_store.specs.Span.{Span}
-use Rattle.heap_store.specs.World.{World, recs}
-use Rattle.heap_store.specs.Forest.{in_front, forest, is_trees_only, ranks_fall}
+use Rattle.heap_store.specs.World.{World, recs, holds}
+use Rattle.heap_store.specs.Forest.{Forest, no_trees, a_tree, in_front, forest, is_trees_only, ranks_fall}
 use Rattle.heap_store.specs.Growth.{Grows}
 use Rattle.heap_store.specs.Lawful.{IsLawful}
 use Rattle.heap_store.specs.View.{View, IsLawfulView, Put, Fits}
+use Rattle.heap_store.proofs.GrowthLaws.{at_true, sorts_agree}
 use Rattle.heap_store.proofs.LawfulLaws.{lawful_names}
 use Rattle.heap_store.proofs.MeaningLaws.{means_is}
 use Rattle.heap_store.proofs.MadeLaws.{forest_kept, trees_only_kept}
 use Rattle.binom_heap.specs.declared.trees.BinomialTree.{BinomialTree}
 use Rattle.binom_heap.specs.Trees.{tree_record}
-use Rattle.binom_heap.specs.Laying.{Puts, IsTree, IsList, MayLink, MayPrecede, Grown, Linked, Laid}
-use Rattle.binom_heap.proofs.TreeLaws.{forest_is, trees_only_is, trees_there}
-use Rattle.binom_heap.proofs.FirstTrees.{tree_before, tree_forest}
+use Rattle.binom_heap.specs.Laying.{Puts, IsTree, IsList, MayLink, MayPrecede, MayPutCell, Grown, Linked, Laid}
+use Rattle.binom_heap.proofs.TreeLaws.{TreeIs, tree_by_sort, forest_is, trees_only_is, trees_there}
+use Rattle.binom_heap.proofs.FirstTrees.{tree_before, tree_forest, cell_tree}
 use Rattle.binom_heap.proofs.RunLaws.{puts_none, puts_put, next_held}
 use Rattle.binom_heap.proofs.TreePuts.{IsFull, tree_full, fits_cell}
 
@@ -80,6 +84,71 @@ preceded {v} {new} law law' run run' t list place k p at place_is =
       list = record { trees = trees_only_is (recs new.seen) (lawful_names law'.world) place.0 _ here ∙ only_up law.world p.grows list.0 k.list_is.trees; low = rw (at, place_is) (omega arith) };
       forest_is = cell_forest law'.world t list place.0 there here ∙ rw (kids, more) refl;
     }
+
+-- ---- a cell, by the place of its tree
+
+-- the tree of a list's first cell, and the list behind it
+pub record CellIs (w : World) (list : ℕ) (tree rest : Ref) : Type 0 where
+  pub rank : ℕ
+  pub item : ℕ
+  pub kids : Forest
+  pub tree_is : forest (recs w) tree.0 ≡ a_tree rank item kids no_trees
+  pub there : holds (recs w) tree.0 (λ r. same_sort (sort_of r) sorts.Tree) ≡ true
+  pub tree_low : tree.0 < list
+  pub rest_low : rest.0 < list
+  pub rest_only : is_trees_only (recs w) rest.0 ≡ true
+  pub trees : forest (recs w) list ≡ a_tree rank item kids (forest (recs w) rest.0)
+
+pub cell_is : {w : World} → IsLawful w → (list : ℕ) (tree rest : Ref) → is_trees_only (recs w) list ≡ true → recs w list ≡ Some (TCons tree rest) → CellIs w list tree rest
+cell_is {w} law list tree rest only e =
+    let k = cell_tree law list tree rest e in
+    let there = k.there in
+    record {
+      rank = k.tree.rank;
+      item = k.tree.item.0;
+      kids = forest (recs w) k.tree.kids.0;
+      tree_is = forest_is (recs w) (lawful_names law) tree.0 _ there;
+      there = rw there refl;
+      tree_low = k.tree_low;
+      rest_low = k.rest_low;
+      rest_only = sym (trees_only_is (recs w) (lawful_names law) list _ e) ∙ only;
+      trees = k.trees;
+    }
+
+-- a tree's place in a larger world
+pub tree_there_up : {a b : World} → Grows a b → (tree : ℕ) → holds (recs a) tree (λ r. same_sort (sort_of r) sorts.Tree) ≡ true → holds (recs b) tree (λ r. same_sort (sort_of r) sorts.Tree) ≡ true
+tree_there_up {a} {b} x tree h =
+    let t = at_true (λ r. same_sort (sort_of r) sorts.Tree) (recs a tree) h in
+    rw (x.records tree t.0 t.1) t.2
+
+pub tree_kept : {a b : World} → IsLawful a → Grows a b → (tree : ℕ) → holds (recs a) tree (λ r. same_sort (sort_of r) sorts.Tree) ≡ true → forest (recs b) tree ≡ forest (recs a) tree
+tree_kept {a} {b} law x tree h =
+    let t = at_true (λ r. same_sort (sort_of r) sorts.Tree) (recs a tree) h in
+    sym (forest_kept (recs a) (recs b) (lawful_names law) x.records tree (t.0, t.1))
+
+module _ {v : View} (law : IsLawful v.seen) (run : Span) (tree : Ref) (list : ℕ) (k : MayPutCell v run tree.0 list) where
+  pub there_is : (r : Rec) × (recs v.seen tree.0 ≡ Some r) × (same_sort (sort_of r) sorts.Tree ≡ true)
+  there_is = at_true (λ r. same_sort (sort_of r) sorts.Tree) (recs v.seen tree.0) k.there
+
+  pub fields : TreeIs there_is.0
+  fields = tree_by_sort there_is.0 (sorts_agree (sort_of there_is.0) sorts.Tree there_is.2)
+
+  -- the tree at the place
+  abbrev pub tree_of : BinomialTree
+  tree_of = record { place = tree; rank = fields.rank; item = fields.item; kids = fields.kids }
+
+  pub cell_precede : MayPrecede v run tree_of list
+  cell_precede = record { held = k.held; room = k.room; tree_is = record { there = there_is.1 ∙ ap Some fields.is; low = k.low }; list_is = k.list_is }
+
+  pub cell_laid : {new : View} {run' : Span} {place : ℕ} → Laid v new run run' 1 place (tree_before (forest (recs v.seen)) tree_of (forest (recs v.seen) list)) → Laid v new run run' 1 place (in_front (forest (recs v.seen) tree.0) (forest (recs v.seen) list))
+  cell_laid d = record { puts = d.puts; list = d.list; forest_is = d.forest_is ∙ sym (ap (λ z. in_front z (forest (recs v.seen) list)) (tree_forest law tree_of cell_precede.tree_is.there)) }
+
+-- the same for a tree with its fields
+pub precede_cell : {v : View} {run : Span} {t : BinomialTree} {list : ℕ} → MayPrecede v run t list → MayPutCell v run t.place.0 list
+precede_cell {v} {run} {t} {list} k = record { held = k.held; room = k.room; there = (let e = k.tree_is.there in rw e refl); low = k.tree_is.low; list_is = k.list_is }
+
+pub precede_laid : {v new : View} {run run' : Span} {t : BinomialTree} {list place : ℕ} → IsLawful v.seen → MayPrecede v run t list → Laid v new run run' 1 place (in_front (forest (recs v.seen) t.place.0) (forest (recs v.seen) list)) → Laid v new run run' 1 place (tree_before (forest (recs v.seen)) t (forest (recs v.seen) list))
+precede_laid {v} {new} {run} {run'} {t} {list} law k d = record { puts = d.puts; list = d.list; forest_is = d.forest_is ∙ ap (λ z. in_front z (forest (recs v.seen) list)) (tree_forest law t k.tree_is.there) }
 
 -- ---- a tree that gets another one as its first child
 

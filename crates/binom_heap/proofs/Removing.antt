@@ -16,7 +16,7 @@ use Rattle.heap_store.specs.Lawful.{IsLawful}
 use Rattle.heap_store.proofs.ShowLaws.{one_value}
 use Rattle.heap_store.proofs.LawfulLaws.{lawful_names}
 use Rattle.binom_heap.specs.Trees.{weight}
-use Rattle.binom_heap.specs.Removal.{Least, least_step, least_of, without_tree, turned, tree_count}
+use Rattle.binom_heap.specs.Removal.{Least, least_step, least_of, turned, tree_count}
 use Rattle.binom_heap.proofs.BinaryLaws.{by_halves, binary_even, binary_odd, bits_none}
 use Rattle.binom_heap.proofs.ForestItems.{items, rising_left, rising_right, rising_middle, same_right, exchange}
 use Rattle.binom_heap.proofs.ForestLaws.{twice, rise_lower}
@@ -60,6 +60,12 @@ all_both t xs ys h k =
 abbrev pub in_heap_order : Forest → Bool
 in_heap_order no_trees = true
 in_heap_order (a_tree rank item kids more) = list_all (leb item) (rising (items kids)) && in_heap_order more
+
+-- a list without the tree that stands behind so many
+abbrev pub without_tree : ℕ → Forest → Forest
+without_tree n no_trees = no_trees
+without_tree zero (a_tree _ _ _ more) = more
+without_tree (suc n) (a_tree rank item kids more) = a_tree rank item kids (without_tree n more)
 
 -- what a list has beside the tree that is taken out of it
 pub record IsTaken (f : Forest) (l : Least) : Type 0 where

@@ -11,6 +11,7 @@ use Rattle.lazy_rec.specs.Numbers.{ones, zeros, trailing_ones}
 use Rattle.lazy_rec.specs.Meaning.{means}
 use Rattle.lazy_rec.specs.Plain.{rising, most_items}
 use Rattle.lazy_rec.specs.Units.{paid}
+use Rattle.heap_store.specs.declared.jobs.Cursor.{Cursor}
 use Rattle.heap_store.specs.declared.jobs.EventJob.{EventJob}
 use Rattle.heap_store.specs.declared.jobs.Stage.{Stage}
 use Rattle.heap_store.specs.declared.jobs.Stage.TheVariants.{Start, HeapPaid, Parts, Root}
@@ -25,7 +26,7 @@ use Rattle.heap_store.specs.Budget.{are_discharged}
 use Rattle.heap_store.specs.View.{View}
 use Rattle.heap_store.specs.Jobs.{Filled}
 use Rattle.binom_heap.specs.declared.heap.Top.{Top}
-use Rattle.binom_heap.specs.Removal.{Least, least_of}
+use Rattle.binom_heap.specs.Removal.{Least, least_of, StandsAt}
 
 -- the record of a top
 abbrev pub top_record : Top → Rec
@@ -113,9 +114,27 @@ IsReadyAt w job nodes (HeapPaid top) = (holds (recs w) top.0 (is_known_list w) �
 IsReadyAt w job nodes (Parts _ _ _ _) = nodes ≡ 0
 IsReadyAt w job nodes (Root _ _) = nodes ≡ 0
 
--- what the answer that an event is ready tells its build
+-- what the answer that an event is ready tells its build, beside the cursor
 pub record IsReadyEvent (w : World) (job : EventJob) (nodes : ℕ) : Type 0 where
   pub ready : IsReadyAt w job nodes job.stage
+
+-- the cursor is the place of the list that begins with the tree, and how many trees stand before it, if there is a tree
+abbrev pub PointsAt : World → Forest → Option Least → Cursor → Type 0
+PointsAt w f None cursor = Unit {0}
+PointsAt w f (Some l) cursor = StandsAt w f l cursor.place.0 cursor.passed
+
+-- in the second stage of a delmin the cursor points at the first tree of the least root
+abbrev pub TellsLeastAt : World → Cursor → Op → Stage → Type 0
+TellsLeastAt w cursor ops.Delmin (HeapPaid top) = PointsAt w (forest (recs w) top.0) (least_of (forest (recs w) top.0)) cursor
+TellsLeastAt w cursor _ _ = Unit {0}
+
+abbrev pub TellsLeast : World → EventJob → Cursor → Type 0
+TellsLeast w job cursor = TellsLeastAt w cursor job.op job.stage
+
+-- what the answer that an event is ready tells its build, with the cursor that it hands on
+pub record IsReadyWith (cursor : Cursor) (w : World) (job : EventJob) (nodes : ℕ) : Type 0 where
+  pub ready : IsReadyEvent w job nodes
+  pub least : TellsLeast w job cursor
 
 -- the event ended at this root
 abbrev pub ends_at : After → ℕ → Bool

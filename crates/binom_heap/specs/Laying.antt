@@ -1,6 +1,8 @@
 -- Trees and lists of trees that are laid in a run: what each step asks and makes.
 use Rattle.std.specs.Prelude.{◌≡◌, ℕ, suc, ◌+◌, ◌*◌, ◌<◌, ◌≤◌, ◌^◌, min, true, Some}
-use Rattle.heap_store.specs.World.{World, recs}
+use Rattle.lazy_rec.specs.declared.records.Sort.TheVariants as sorts
+use Rattle.lazy_rec.specs.Named.{sort_of, same_sort}
+use Rattle.heap_store.specs.World.{World, recs, holds}
 use Rattle.heap_store.specs.Span.{Span}
 use Rattle.heap_store.specs.View.{View}
 use Rattle.heap_store.specs.Hand.{IsInHand}
@@ -57,6 +59,14 @@ pub record MayPrecede (v : View) (run : Span) (tree : BinomialTree) (list : ℕ)
   pub held : IsInHand v.hand run
   pub room : run.next + 1 ≤ run.end
   pub tree_is : IsTree v.seen tree run.next
+  pub list_is : IsList v.seen list run.next
+
+-- what asks the put of a cell, which has the place of a published tree in front of a list
+pub record MayPutCell (v : View) (run : Span) (tree list : ℕ) : Type 0 where
+  pub held : IsInHand v.hand run
+  pub room : run.next + 1 ≤ run.end
+  pub there : holds (recs v.seen) tree (λ r. same_sort (sort_of r) sorts.Tree) ≡ true
+  pub low : tree < run.next
   pub list_is : IsList v.seen list run.next
 
 -- what the insert of a tree into a list asks

@@ -11,11 +11,11 @@ ghost use Rattle.binom_heap.specs.Removal.{least_of};
 ghost use Rattle.heap_store.specs.View.{Quiet};
 ghost use Rattle.heap_store.specs.Jobs.{IsJob, EventPrepared, IsEventBuildable, IsEventBuilt};
 ghost use Rattle.binom_heap.specs.Work.{is_heap_work};
-ghost use Rattle.binom_heap.specs.Heap.{meld_places, start_places, removal_places, paid_places, looks_at_trees, ends_at, IsReadyEvent};
+ghost use Rattle.binom_heap.specs.Heap.{meld_places, start_places, removal_places, paid_places, looks_at_trees, ends_at, IsReadyEvent, PointsAt, IsReadyWith};
 
 use crate::heap::{Top, owed_after, put_meld, put_top, read_top};
-use crate::removal::{least_tree, turn, without_tree};
-use crate::trees::NO_TREES;
+use crate::removal::{least_tree, put_again, turn};
+use crate::trees::{NO_TREES, first_tree};
 use crate::work::trees_of;
 use heap_store::{After, Cursor, EventJob, Heap, Prep, Run, Stage, Version, value_place};
 use lazy_rec::limits::MOST_ITEMS;
@@ -177,7 +177,7 @@ fn least_reply<H: Heap>(h: &mut H, trees: Ref) -> Reply
     ensures least { result ≡ told (slice_get (means (recs (H.view h.old).seen) trees.0) 0) }
 {
     match least_tree(h, trees) {
-        Some(least) => Reply::Number(least.tree.item.0),
+        Some(least) => Reply::Number(least.item.0),
         None => Reply::Empty,
     }
 }
@@ -191,61 +191,71 @@ fn tree_size(rank: u8) -> u32
 }
 
 /// How many places the second stage takes: a min none, and a delmin those of the trees before the least one, of its children,
-/// and of the top of both lists.
-fn paid_places<H: Heap>(h: &mut H, op: Op, size: u32, trees: Ref) -> u32
+/// and of the top of both lists. For a delmin the cursor then points at the least tree.
+fn paid_places<H: Heap>(h: &mut H, op: Op, size: u32, trees: Ref, cursor: &mut Cursor) -> u32
     requires trees { is_trees_only (recs (H.view h.old).seen) trees.0 ≡ true }
     requires rise { ranks_rise 0 (forest (recs (H.view h.old).seen) trees.0) ≡ true }
     requires size { weight (forest (recs (H.view h.old).seen) trees.0) ≡ size }
     requires most { size ≤ most_items }
     ensures quiet { Quiet (H.view h.old) (H.view h.new) }
     ensures places { result ≡ paid_places op size (forest (recs (H.view h.old).seen) trees.0) }
+    ensures least { op ≡ Op.Delmin → PointsAt (H.view h.new).seen (forest (recs (H.view h.new).seen) trees.0) (least_of (forest (recs (H.view h.new).seen) trees.0)) cursor.new }
 {
     match op {
-        Op::Delmin => removal_places(h, size, trees),
+        Op::Delmin => removal_places(h, size, trees, cursor),
         _ => 0,
     }
 }
 
-/// The places of a delmin's second stage. A call, as `start_places` is.
+/// The places of a delmin's second stage, and the least tree by the cursor. A call, as `start_places` is.
 #[inline(never)]
-fn removal_places<H: Heap>(h: &mut H, size: u32, trees: Ref) -> u32
+fn removal_places<H: Heap>(h: &mut H, size: u32, trees: Ref, cursor: &mut Cursor) -> u32
     requires trees { is_trees_only (recs (H.view h.old).seen) trees.0 ≡ true }
     requires rise { ranks_rise 0 (forest (recs (H.view h.old).seen) trees.0) ≡ true }
     requires size { weight (forest (recs (H.view h.old).seen) trees.0) ≡ size }
     requires most { size ≤ most_items }
     ensures quiet { Quiet (H.view h.old) (H.view h.new) }
     ensures places { result ≡ removal_places size (least_of (forest (recs (H.view h.old).seen) trees.0)) }
+    ensures least { PointsAt (H.view h.new).seen (forest (recs (H.view h.new).seen) trees.0) (least_of (forest (recs (H.view h.new).seen) trees.0)) cursor.new }
 {
-    match least_tree(h, trees) {
-        Some(least) => {
-            let full = tree_size(least.tree.rank);
-            let top = meld_places(size - full, full - 1);
-            least.before + u32::from(least.tree.rank) + top
-        }
-        None => 0,
-    }
+    let Some(least) = least_tree(h, trees) else {
+        return 0;
+    };
+    let Some(first) = first_tree(h, least.at) else {
+        unreachable!()
+    };
+    *cursor = Cursor {
+        place: least.at,
+        passed: least.before,
+    };
+    let full = tree_size(first.tree.rank);
+    let top = meld_places(size - full, full - 1);
+    least.before + u32::from(first.tree.rank) + top
 }
 
-/// The second stage of a delmin: the list without the first tree of the least root, and that tree's children in rising ranks. An
-/// empty heap stays.
-fn delmin<H: Heap>(h: &mut H, job: &EventJob, top: Ref, run: &mut Run) -> After
+/// The second stage of a delmin: the list without the first tree of the least root, at which the cursor points, and that tree's
+/// children in rising ranks. An empty heap stays.
+fn delmin<H: Heap>(h: &mut H, job: &EventJob, top: Ref, cursor: &Cursor, run: &mut Run) -> After
     requires kind { job.now.base.kind ≡ Kind.Heap }
     requires op { job.now.op ≡ Op.Delmin }
     requires stage { job.now.stage ≡ Stage.HeapPaid top }
-    requires build { IsEventBuildable IsReadyEvent (H.view h.old) job.now run.old }
+    requires build { IsEventBuildable (IsReadyWith cursor.now) (H.view h.old) job.now run.old }
     ensures built { IsEventBuilt (H.view h.old) (H.view h.new) job.now run.old run.new result }
 {
-    let paid = read_top(h, top);
-    let trees = trees_of(h, paid.list);
-    let Some(least) = least_tree(h, trees) else {
+    if job.base.size == 0 {
         return After::End {
             root: top,
             size: job.base.size,
             reply: Reply::Empty,
         };
+    }
+    let paid = read_top(h, top);
+    let trees = trees_of(h, paid.list);
+    let Some(least) = first_tree(h, cursor.place) else {
+        unreachable!()
     };
     let full = tree_size(least.tree.rank);
-    let rest = without_tree(h, trees, least.before, run);
+    let rest = put_again(h, trees, cursor.passed, least.rest, run);
     let kids = turn(h, least.tree.kids, NO_TREES, run);
     let first = Top {
         list: rest,
@@ -266,13 +276,12 @@ fn delmin<H: Heap>(h: &mut H, job: &EventJob, top: Ref, run: &mut Run) -> After
 }
 
 /// What an operation of a heap needs: in the second stage of a min or a delmin the trees of the list. The number of places is exact. No
-/// operation has cells to pass one by one, so the cursor stays.
+/// operation has cells to pass one by one: in the second stage of a delmin the cursor tells its build the least tree.
 pub fn prepare_event<H: Heap>(h: &mut H, job: &EventJob, cursor: &mut Cursor) -> Prep
     requires job { IsJob (H.view h.old).seen job.now }
     requires kind { job.now.base.kind ≡ Kind.Heap }
     ensures quiet { Quiet (H.view h.old) (H.view h.new) }
-    ensures cursor { cursor.new ≡ cursor.old }
-    ensures answer { EventPrepared is_heap_work IsReadyEvent (H.view h.new).seen job.now result }
+    ensures answer { EventPrepared is_heap_work (IsReadyWith cursor.new) (H.view h.new).seen job.now result }
 {
     let Stage::HeapPaid { top } = job.stage else {
         return Prep::Ready {
@@ -282,7 +291,7 @@ pub fn prepare_event<H: Heap>(h: &mut H, job: &EventJob, cursor: &mut Cursor) ->
     let paid = read_top(h, top);
     match value_place(h, paid.list) {
         Some(trees) => Prep::Ready {
-            nodes: paid_places(h, job.op, job.base.size, trees),
+            nodes: paid_places(h, job.op, job.base.size, trees, cursor),
         },
         None => Prep::Need(paid.list),
     }
@@ -293,7 +302,7 @@ pub fn prepare_event<H: Heap>(h: &mut H, job: &EventJob, cursor: &mut Cursor) ->
 /// and a delmin in both stages twice as many as its size has digits.
 pub fn build_event<H: Heap>(h: &mut H, job: &EventJob, cursor: &Cursor, run: &mut Run) -> After
     requires kind { job.now.base.kind ≡ Kind.Heap }
-    requires build { IsEventBuildable IsReadyEvent (H.view h.old) job.now run.old }
+    requires build { IsEventBuildable (IsReadyWith cursor.now) (H.view h.old) job.now run.old }
     ensures built { IsEventBuilt (H.view h.old) (H.view h.new) job.now run.old run.new result }
     ensures base { job.now.stage ≡ Stage.Start → run.old.next ≡ run.old.end → ends_at result job.now.base.root.0 ≡ true }
     ensures paid { (top : Ref) → job.now.op ≡ Op.Min → job.now.stage ≡ Stage.HeapPaid top → ends_at result top.0 ≡ true }
@@ -306,7 +315,7 @@ pub fn build_event<H: Heap>(h: &mut H, job: &EventJob, cursor: &Cursor, run: &mu
             _ => pay(h, job, run),
         },
         Op::Delmin => match job.stage {
-            Stage::HeapPaid { top } => delmin(h, job, top, run),
+            Stage::HeapPaid { top } => delmin(h, job, top, cursor, run),
             _ => pay(h, job, run),
         },
         _ => same(&job.base, Reply::Number(u64::from(job.base.size))),

@@ -1,20 +1,21 @@
-//! The tree with the least root of a list, the list without it, and its children in rising ranks.
+//! The tree with the least root of a list, the trees before it put again, and its children in rising ranks.
 ghost use Rattle.std.specs.Prelude.{◌≡◌, ltb, cond, true, Some};
 ghost use Rattle.heap_store.specs.World.{recs};
 ghost use Rattle.heap_store.specs.View.{Quiet};
 ghost use Rattle.heap_store.specs.Forest.{forest, is_trees_only, ranks_rise};
 ghost use Rattle.binom_heap.specs.Laying.{Laid};
-ghost use Rattle.binom_heap.specs.Removal.{least_of, without_tree, turned, tree_count, IsLeast, MayDrop, MayTurn};
+ghost use Rattle.binom_heap.specs.Removal.{least_of, first_onto, turned, tree_count, IsLeast, MayPutAgain, MayTurn};
 
-use crate::trees::{BinomialTree, first_tree, put_first};
+use crate::trees::{first_tree, put_cell, tree_cell};
 use heap_store::{Heap, Run};
-use lazy_rec::Ref;
+use lazy_rec::{Item, Ref};
 
-/// The first tree with the least root of a list, and how many trees stand before it.
+/// The first tree with the least root of a list: how many trees stand before it, the list that begins with it, and its root.
 #[derive(Clone, Copy)]
 pub struct LeastTree {
     pub before: u32,
-    pub tree: BinomialTree,
+    pub at: Ref,
+    pub item: Item,
 }
 
 /// The first tree with the least root of a list, if it has any.
@@ -29,14 +30,16 @@ pub(crate) fn least_tree<H: Heap>(h: &mut H, list: Ref) -> Option<LeastTree>
     };
     let mut least = LeastTree {
         before: 0,
-        tree: first.tree,
+        at: list,
+        item: first.tree.item,
     };
     let mut passed = 1;
     let mut rest = first.rest;
     while let Some(next) = first_tree(h, rest) {
         let here = LeastTree {
             before: passed,
-            tree: next.tree,
+            at: rest,
+            item: next.tree.item,
         };
         least = lesser(least, here);
         passed += 1;
@@ -48,40 +51,43 @@ pub(crate) fn least_tree<H: Heap>(h: &mut H, list: Ref) -> Option<LeastTree>
 /// Of two trees the one with the lesser root, of equal ones the first.
 #[inline(always)]
 fn lesser(first: LeastTree, later: LeastTree) -> LeastTree
-    ensures { result ≡ cond (ltb later.tree.item.0 first.tree.item.0) later first }
+    ensures { result ≡ cond (ltb later.item.0 first.item.0) later first }
 {
-    if later.tree.item.0 < first.tree.item.0 {
+    if later.item.0 < first.item.0 {
         later
     } else {
         first
     }
 }
 
-/// The list without the tree behind so many others, which are put again in front of what follows it. It takes so many places.
-pub(crate) fn without_tree<H: Heap>(h: &mut H, list: Ref, before: u32, run: &mut Run) -> Ref
-    requires { MayDrop (H.view h.old) run.old list.0 before }
-    ensures { Laid (H.view h.old) (H.view h.new) run.old run.new before result.0 (without_tree before (forest (recs (H.view h.old).seen) list.0)) }
+/// The first trees of a list, so many, put again in front of another list. It takes a place for each of them.
+#[inline(never)]
+pub(crate) fn put_again<H: Heap>(h: &mut H, list: Ref, count: u32, onto: Ref, run: &mut Run) -> Ref
+    requires { MayPutAgain (H.view h.old) run.old list.0 count onto.0 }
+    ensures { Laid (H.view h.old) (H.view h.new) run.old run.new count result.0 (first_onto count (forest (recs (H.view h.old).seen) list.0) (forest (recs (H.view h.old).seen) onto.0)) }
 {
-    let Some(first) = first_tree(h, list) else {
+    if count == 0 {
+        return onto;
+    }
+    let Some(first) = tree_cell(h, list) else {
         unreachable!()
     };
-    if before == 0 {
-        return first.rest;
-    }
-    let more = without_tree(h, first.rest, before - 1, run);
-    put_first(h, first.tree, more, run)
+    let more = put_again(h, first.rest, count - 1, onto, run);
+    put_cell(h, first.tree, more, run)
 }
 
-/// The trees of a list in the other order, in front of another list. It takes a place for each of them.
+/// The trees of a list in the other order, in front of another list. It takes a place for each of them. A call, since what is
+/// inlined into the work of events has few registers.
+#[inline(never)]
 pub(crate) fn turn<H: Heap>(h: &mut H, list: Ref, onto: Ref, run: &mut Run) -> Ref
     requires { MayTurn (H.view h.old) run.old list.0 onto.0 }
     ensures { Laid (H.view h.old) (H.view h.new) run.old run.new (tree_count (forest (recs (H.view h.old).seen) list.0)) result.0 (turned (forest (recs (H.view h.old).seen) list.0) (forest (recs (H.view h.old).seen) onto.0)) }
 {
-    match first_tree(h, list) {
-        Some(first) => {
-            let cell = put_first(h, first.tree, onto, run);
-            turn(h, first.rest, cell, run)
-        }
-        None => onto,
+    let mut turned = onto;
+    let mut rest = list;
+    while let Some(first) = tree_cell(h, rest) {
+        turned = put_cell(h, first.tree, turned, run);
+        rest = first.rest;
     }
+    turned
 }

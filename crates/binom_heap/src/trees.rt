@@ -14,13 +14,13 @@
 //! ```
 //!
 //! A link takes two places: a cell of the list of children, which has the other tree first, and the tree that has it.
-ghost use Rattle.std.specs.Prelude.{◌≡◌, ◌+◌, ◌*◌, ◌≤◌, true, None, IfSome};
+ghost use Rattle.std.specs.Prelude.{◌≡◌, ◌+◌, ◌*◌, ◌≤◌, true, Some, None, IfSome};
 ghost use Rattle.lazy_rec.specs.declared.places.Item.{Item};
 ghost use Rattle.heap_store.specs.World.{recs};
 ghost use Rattle.heap_store.specs.View.{Quiet};
-ghost use Rattle.heap_store.specs.Forest.{no_trees, a_tree, add_tree, merge, forest, is_trees_only};
+ghost use Rattle.heap_store.specs.Forest.{no_trees, a_tree, in_front, add_tree, merge, forest, is_trees_only};
 ghost use Rattle.binom_heap.specs.Trees.{IsFirst, trees_met, merge_places};
-ghost use Rattle.binom_heap.specs.Laying.{MayLink, Linked, MayPrecede, MayInsert, MayMerge, Grown, Laid};
+ghost use Rattle.binom_heap.specs.Laying.{MayLink, Linked, MayPrecede, MayPutCell, MayInsert, MayMerge, Grown, Laid};
 
 use heap_store::{Heap, Run};
 use lazy_rec::{Item, Rec, Ref};
@@ -65,6 +65,27 @@ pub(crate) fn first_tree<H: Heap>(h: &mut H, list: Ref) -> Option<FirstTree>
             }
             _ => unreachable!(),
         },
+        _ => None,
+    }
+}
+
+/// The first cell of a list of trees: the place of a tree, and of the trees after it.
+#[derive(Clone, Copy)]
+pub struct TreeCell {
+    pub tree: Ref,
+    pub rest: Ref,
+}
+
+/// The first cell of a list of trees, if it has one.
+#[inline(always)]
+pub(crate) fn tree_cell<H: Heap>(h: &mut H, list: Ref) -> Option<TreeCell>
+    requires { is_trees_only (recs (H.view h.old).seen) list.0 ≡ true }
+    ensures quiet { Quiet (H.view h.old) (H.view h.new) }
+    ensures none { result ≡ None → forest (recs (H.view h.old).seen) list.0 ≡ no_trees }
+    ensures some { IfSome result (λ c. recs (H.view h.old).seen list.0 ≡ Some (Rec.TCons c.tree c.rest)) }
+{
+    match h.read(list) {
+        Rec::TCons { tree, rest } => Some(TreeCell { tree, rest }),
         _ => None,
     }
 }
@@ -165,13 +186,16 @@ pub(crate) fn put_first<H: Heap>(h: &mut H, tree: BinomialTree, list: Ref, run: 
     requires { MayPrecede (H.view h.old) run.old tree list.0 }
     ensures { Laid (H.view h.old) (H.view h.new) run.old run.new 1 result.0 (a_tree tree.rank tree.item.0 (forest (recs (H.view h.old).seen) tree.kids.0) (forest (recs (H.view h.old).seen) list.0)) }
 {
-    h.put(
-        run,
-        Rec::TCons {
-            tree: tree.place,
-            rest: list,
-        },
-    )
+    put_cell(h, tree.place, list, run)
+}
+
+/// A cell that has a tree's place in front of a list.
+#[inline(always)]
+pub(crate) fn put_cell<H: Heap>(h: &mut H, tree: Ref, list: Ref, run: &mut Run) -> Ref
+    requires { MayPutCell (H.view h.old) run.old tree.0 list.0 }
+    ensures { Laid (H.view h.old) (H.view h.new) run.old run.new 1 result.0 (in_front (forest (recs (H.view h.old).seen) tree.0) (forest (recs (H.view h.old).seen) list.0)) }
+{
+    h.put(run, Rec::TCons { tree, rest: list })
 }
 
 /// Merges two lists of rising ranks: a tree of a rank that the other list lacks goes in front of what the rests make, and two of

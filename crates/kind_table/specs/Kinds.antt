@@ -10,6 +10,7 @@ use Rattle.lazy_rec.specs.declared.events.Event.{Event}
 use Rattle.lazy_rec.specs.Tests.{is_some_and}
 use Rattle.lazy_rec.specs.Kinds.{belongs, uses_base}
 use Rattle.lazy_rec.specs.History.{event_of, kind_of}
+use Rattle.heap_store.specs.declared.jobs.Cursor.{Cursor}
 use Rattle.heap_store.specs.declared.jobs.EventJob.{EventJob}
 use Rattle.heap_store.specs.World.{World, recs}
 use Rattle.lazy_stream.specs.Stream as stream
@@ -70,14 +71,14 @@ told_of w s nodes _ = Unit {0}
 abbrev pub told_by : World → ℕ → ℕ → Type 0
 told_by w s nodes = told_of w s nodes (recs w s)
 
--- what the answer that a stage is ready tells its build, by the base's kind
-abbrev pub ready_of : Kind → World → EventJob → ℕ → Type 0
-ready_of kinds.Stream w job nodes = stream.IsReadyEvent w job nodes
-ready_of kinds.Bankq w job nodes = bank.IsReadyEvent w job nodes
-ready_of kinds.Rtq w job nodes = real_time.IsReadyEvent w job nodes
-ready_of kinds.Heap w job nodes = heap.IsReadyEvent w job nodes
-ready_of kinds.Seq w job nodes = sequence.IsReadyEvent w job nodes
-ready_of _ w job nodes = Unit {0}
+-- what the answer that a stage is ready tells its build with the cursor, by the base's kind: heaps alone say something of it
+abbrev pub ready_of : Kind → Cursor → World → EventJob → ℕ → Type 0
+ready_of kinds.Stream cursor w job nodes = stream.IsReadyEvent w job nodes
+ready_of kinds.Bankq cursor w job nodes = bank.IsReadyEvent w job nodes
+ready_of kinds.Rtq cursor w job nodes = real_time.IsReadyEvent w job nodes
+ready_of kinds.Heap cursor w job nodes = heap.IsReadyWith cursor w job nodes
+ready_of kinds.Seq cursor w job nodes = sequence.IsReadyEvent w job nodes
+ready_of _ cursor w job nodes = Unit {0}
 
-abbrev pub IsReadyEvent : World → EventJob → ℕ → Type 0
-IsReadyEvent w job nodes = ready_of job.base.kind w job nodes
+abbrev pub IsReadyEvent : Cursor → World → EventJob → ℕ → Type 0
+IsReadyEvent cursor w job nodes = ready_of job.base.kind cursor w job nodes

@@ -46,12 +46,12 @@ pub fn new_event<H: Heap>(h: &mut H, kind: Kind, run: &mut Run) -> Ref
     }
 }
 
-/// What a stage of an event needs, or how many places it takes.
+/// What a stage of an event needs, or how many places it takes. The cursor is handed on to its build.
 pub fn prepare_event<H: Heap>(h: &mut H, job: &EventJob, cursor: &mut Cursor) -> Prep
     requires job { IsJob (H.view h.old).seen job.now }
     requires built { is_built job.now.base.kind job.now.op ≡ true }
     ensures quiet { Quiet (H.view h.old) (H.view h.new) }
-    ensures answer { EventPrepared is_any_work IsReadyEvent (H.view h.new).seen job.now result }
+    ensures answer { EventPrepared is_any_work (IsReadyEvent cursor.new) (H.view h.new).seen job.now result }
 {
     match job.base.kind {
         Kind::Stream => lazy_stream::prepare_event(h, job, cursor),
@@ -66,7 +66,7 @@ pub fn prepare_event<H: Heap>(h: &mut H, job: &EventJob, cursor: &mut Cursor) ->
 /// Does a stage of an event whose needs are done: its result, or the next stage.
 pub fn build_event<H: Heap>(h: &mut H, job: &EventJob, cursor: &Cursor, run: &mut Run) -> After
     requires built { is_built job.now.base.kind job.now.op ≡ true }
-    requires build { IsEventBuildable IsReadyEvent (H.view h.old) job.now run.old }
+    requires build { IsEventBuildable (IsReadyEvent cursor.now) (H.view h.old) job.now run.old }
     ensures { IsEventBuilt (H.view h.old) (H.view h.new) job.now run.old run.new result }
 {
     match job.base.kind {

@@ -9,6 +9,7 @@ use Rattle.lazy_rec.specs.declared.events.Op.{Op}
 use Rattle.lazy_rec.specs.Named.{is_pending}
 use Rattle.heap_store.specs.declared.claims.HeldClaim.{HeldClaim}
 use Rattle.heap_store.specs.declared.claims.Full.{Full}
+use Rattle.heap_store.specs.declared.jobs.Cursor.{Cursor}
 use Rattle.heap_store.specs.declared.jobs.EventJob.{EventJob}
 use Rattle.heap_store.specs.Span.{Span}
 use Rattle.heap_store.specs.World.{World, recs, holds, some_record}
@@ -309,8 +310,8 @@ pub may_reserve : {old now : View} {first job : EventJob} {k : ℕ} → Working 
 may_reserve {old} {now} {first} {job} w few = omega (arith, w.means.places, own_places job, few)
 
 -- what a build asks
-pub working_buildable : {old now mid : View} {k : ℕ} {run : Span} {first job : EventJob} → IsLawful now.seen → Working old now first job → IsReadyEvent now.seen job k → Reserved now mid k run → IsEventBuildable IsReadyEvent mid job run
-working_buildable {old} {now} {mid} {k} {run} {first} {job} law w ready r =
+pub working_buildable : {old now mid : View} {k : ℕ} {run : Span} {first job : EventJob} (cursor : Cursor) → IsLawful now.seen → Working old now first job → IsReadyEvent cursor now.seen job k → Reserved now mid k run → IsEventBuildable (IsReadyEvent cursor) mid job run
+working_buildable {old} {now} {mid} {k} {run} {first} {job} cursor law w ready r =
     let credits : mid.hand.credits ≡ now.hand.credits = ap (λ (h : Hand). h.credits) r.hand in
     record {
       base = now.seen;

@@ -3,13 +3,13 @@ use Rattle.lazy_rec.specs.Kinds.{belongs}
 use Rattle.lazy_rec.specs.declared.events.Op.TheVariants as ops
 use Rattle.heap_store.proofs.Steps.{Quiet_refl}
 use Rattle.binom_heap.proofs.Tops.{top_of_root}
-use Rattle.binom_heap.proofs.EventTops.{only_size, first_stage, other_kind, build_root, build_top, no_nodes, size_nodes, built_same, same_root}
+use Rattle.binom_heap.proofs.EventTops.{only_size, first_stage, other_kind, build_root, build_top, no_nodes, size_nodes, built_same, same_root, plain_build}
 use Rattle.binom_heap.proofs.EventMakes.{size_end}
 use Rattle.binom_heap.proofs.events.build_event.Goals as goal
 
 pub returns-in_default : goal.returns-in_default
 returns-in_default g c =
-    let b = c.requires.build in
+    let b = plain_build c.requires.build in
     let job = c.args.job.now in
     let kind = c.requires.kind in
     let op = only_size job.op (ap (λ k. belongs k job.op) (sym kind) ∙ b.base_job.op) c.in_default.not-Insert c.in_default.not-Meld c.in_default.not-Min c.in_default.not-Delmin in

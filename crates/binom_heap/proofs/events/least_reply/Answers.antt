@@ -12,7 +12,7 @@ use Rattle.binom_heap.proofs.events.least_reply.Goals as goal
 use Rattle.binom_heap.proofs.events.least_reply.Goals.{After-least_tree}
 
 -- the first item is what was found
-first : (g : _) (c : After-least_tree g) → slice_get (means (recs (g.H.Heap.view c.args.h.now).seen) c.args.trees.0) 0 ≡ option_map (λ (t : LeastTree). t.tree.item.0) c.least_tree.result
+first : (g : _) (c : After-least_tree g) → slice_get (means (recs (g.H.Heap.view c.args.h.now).seen) c.args.trees.0) 0 ≡ option_map (λ (t : LeastTree). t.item.0) c.least_tree.result
 first g c =
     let law = (g.met.H.Heap.lawful c.args.h.now).world in
     let x = c.least_tree.ensures.quiet.grows in

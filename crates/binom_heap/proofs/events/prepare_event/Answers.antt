@@ -1,4 +1,5 @@
-use Rattle.std.proofs.Common.{◌≡◌, ◌∙◌, ap, sym, arith, refl}
+use Rattle.std.proofs.Common.{◌≡◌, ◌∙◌, ap, sym, arith, subst, refl}
+use Rattle.lazy_rec.specs.declared.events.Op.TheVariants as ops
 use Rattle.heap_store.specs.World.{recs}
 use Rattle.heap_store.proofs.Steps.{Quiet_trans}
 use Rattle.heap_store.proofs.ReadLaws.{is_there}
@@ -7,7 +8,9 @@ use Rattle.heap_store.specs.Forest.{forest}
 use Rattle.heap_store.proofs.GrowthLaws.{is_value_up}
 use Rattle.heap_store.proofs.LawfulLaws.{lawful_names}
 use Rattle.heap_store.proofs.MadeLaws.{forest_kept}
-use Rattle.binom_heap.specs.Heap.{top_record, paid_places}
+use Rattle.binom_heap.specs.Heap.{top_record, paid_places, PointsAt}
+use Rattle.binom_heap.specs.Removal.{least_of}
+use Rattle.binom_heap.proofs.Linking.{forest_up}
 use Rattle.binom_heap.proofs.TreeLaws.{forest_is}
 use Rattle.binom_heap.proofs.Removed.{paid_most}
 use Rattle.binom_heap.proofs.ListValues.{DoneList, list_there, value_trees}
@@ -26,7 +29,7 @@ returns-in_default-clause-answer g c =
     let kind = c.requires.kind in
     let stage = start_is job.op job.stage (rw kind at c.requires.job.has) c.in_default.not-HeapPaid in
     let n = c.start_places.ensures in
-    (ready_start (g.H.Heap.view c.args.h.now).seen job c.start_places.result stage n, rw n (start_most job kind stage))
+    (ready_start (g.H.Heap.view c.args.h.now).seen job c.start_places.result stage n c.args.cursor.now, rw n (start_most job kind stage))
 
 paid : (g : _) (c : In-HeapPaid g) → PaidTop (g.H.Heap.view c.args.h.now).seen c.args.job.now.base.root.0 c.in-HeapPaid.top.0
 paid g c = paid_job c.args.job.now c.requires.job c.in-HeapPaid.top c.in-HeapPaid.is
@@ -78,8 +81,10 @@ returns-in-Some-clause-answer g c =
     let kept = forest_kept (recs (g.H.Heap.view c.value_place.new.h).seen) (recs (g.H.Heap.view c.paid_places.new.h).seen) (lawful_names law) x.records c.in-HeapPaid.top.0 (top_record c.read_top-paid.result, e) in
     let same : forest (recs (g.H.Heap.view c.value_place.new.h).seen) c.in-Some.trees.0 ≡ forest (recs (g.H.Heap.view c.paid_places.new.h).seen) c.in-HeapPaid.top.0 = k.same ∙ (sym tops ∙ kept) in
     let nodes : c.paid_places.result ≡ paid_places job.op job.base.size (forest (recs (g.H.Heap.view c.paid_places.new.h).seen) c.in-HeapPaid.top.0) = c.paid_places.ensures.places ∙ ap (paid_places job.op job.base.size) same in
+    let now : forest (recs (g.H.Heap.view c.paid_places.new.h).seen) c.in-Some.trees.0 ≡ forest (recs (g.H.Heap.view c.paid_places.new.h).seen) c.in-HeapPaid.top.0 = forest_up law x c.in-Some.trees.0 k.trees ∙ same in
+    let least : job.op ≡ ops.Delmin → PointsAt (g.H.Heap.view c.paid_places.new.h).seen (forest (recs (g.H.Heap.view c.paid_places.new.h).seen) c.in-HeapPaid.top.0) (least_of (forest (recs (g.H.Heap.view c.paid_places.new.h).seen) c.in-HeapPaid.top.0)) c.paid_places.new.cursor = λ op. subst (λ f. PointsAt (g.H.Heap.view c.paid_places.new.h).seen f (least_of f) c.paid_places.new.cursor) now (c.paid_places.ensures.least op) in
     let most = paid_most job c.requires.kind c.in-HeapPaid.top c.in-HeapPaid.is (paid_looks job c.requires.job c.requires.kind c.in-HeapPaid.top c.in-HeapPaid.is) (forest (recs (g.H.Heap.view c.value_place.new.h).seen) c.in-Some.trees.0) (omega (arith, c.requires.job.base.most)) k.rise (k.weight_is ∙ size_is g d) in
-    (ready_paid (g.H.Heap.view c.paid_places.new.h).seen job c.in-HeapPaid.top c.paid_places.result c.in-HeapPaid.is (rw e2 known2) nodes, omega (arith, c.paid_places.ensures.places, most))
+    (ready_paid (g.H.Heap.view c.paid_places.new.h).seen job c.in-HeapPaid.top c.paid_places.result c.in-HeapPaid.is (rw e2 known2) nodes c.paid_places.new.cursor least, omega (arith, c.paid_places.ensures.places, most))
 
 pub returns-in-None-clause-quiet : goal.returns-in-None-clause-quiet
 returns-in-None-clause-quiet g c = Quiet_trans c.read_top-paid.ensures.quiet c.value_place.ensures.quiet

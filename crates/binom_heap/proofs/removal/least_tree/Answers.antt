@@ -18,7 +18,7 @@ returns-in_default-clause-least g c =
 pub loop-next-init : goal.loop-next-init
 loop-next-init g c = record {
   quiet = c.first_tree.ensures.quiet;
-  so_far = so_far_first (g.met.H.Heap.lawful c.args.h.now).world c.args.list.0 c.in-Some.first c.requires.trees c.in-Some.ensures.some c.requires.rise;
+  so_far = so_far_first (g.met.H.Heap.lawful c.args.h.now).world c.args.list c.in-Some.first c.requires.trees c.in-Some.ensures.some c.requires.rise;
 }
 
 pub first_tree-requires-in-loop-next : goal.first_tree-requires-in-loop-next
@@ -53,7 +53,7 @@ loop-next-preserved g c =
     let k = c.loop-next.invariant in
     record {
       quiet = Quiet_trans k.quiet c.first_tree-in-loop-next.ensures.quiet;
-      so_far = so_far_next (g.met.H.Heap.lawful c.args.h.now).world c.args.list.0 c.loop-next.least c.loop-next.passed c.loop-next.rest.0 k.so_far c.in-Some-first_tree.next i c.lesser-least.result c.lesser-least.ensures;
+      so_far = so_far_next (g.met.H.Heap.lawful c.args.h.now).world c.args.list.0 c.loop-next.least c.loop-next.passed c.loop-next.rest k.so_far c.in-Some-first_tree.next i c.lesser-least.result c.lesser-least.ensures;
     }
 
 pub returns-clause-quiet : goal.returns-clause-quiet

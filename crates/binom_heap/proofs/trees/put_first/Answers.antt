@@ -1,9 +1,8 @@
-use Rattle.std.proofs.Common.{arith}
-use Rattle.binom_heap.proofs.Linking.{precede_fits, preceded}
+use Rattle.binom_heap.proofs.Linking.{precede_cell, precede_laid}
 use Rattle.binom_heap.proofs.trees.put_first.Goals as goal
 
-pub put-requires : goal.put-requires
-put-requires g c = record { held = c.requires.held; left = omega (arith, c.requires.room); fits = precede_fits (g.met.H.Heap.lawful c.args.h.now) c.args.run.now c.args.tree c.args.list c.requires }
+pub put_cell-requires : goal.put_cell-requires
+put_cell-requires g c = precede_cell c.requires
 
 pub returns : goal.returns
-returns g c = let p = c.put.ensures in preceded (g.met.H.Heap.lawful c.args.h.now) (g.met.H.Heap.lawful c.put.new.self) c.args.run.now c.put.new.run c.args.tree c.args.list c.put.result c.requires p.put p.run p.place
+returns g c = precede_laid (g.met.H.Heap.lawful c.args.h.now).world c.requires c.put_cell.ensures

@@ -29,7 +29,7 @@ returns-in-Err-reserve-clause-err g c =
 pub build_event-after-requires-clause-build : goal.build_event-after-requires-clause-build
 build_event-after-requires-clause-build g c =
     let w = asked g (goal.at.build_event-after-requires-clause-build g c).After-prepare_event in
-    working_buildable (g.met.R.Heap.lawful c.prepare_event.new.h).world w c.in-Ready.ensures.answer.0 c.in-Ok.ensures.ok
+    working_buildable c.prepare_event.new.cursor (g.met.R.Heap.lawful c.prepare_event.new.h).world w c.in-Ready.ensures.answer.0 c.in-Ok.ensures.ok
 
 pub returns-in-End-clause-ok : goal.returns-in-End-clause-ok
 returns-in-End-clause-ok g c =
