@@ -199,6 +199,7 @@ fn paid_places<H: Heap>(h: &mut H, op: Op, size: u32, trees: Ref, cursor: &mut C
     requires most { size ≤ most_items }
     ensures quiet { Quiet (H.view h.old) (H.view h.new) }
     ensures places { result ≡ paid_places op size (forest (recs (H.view h.old).seen) trees.0) }
+    ensures cursor { (op ≡ Op.Delmin → ⊥) → cursor.new ≡ cursor.old }
     ensures least { op ≡ Op.Delmin → PointsAt (H.view h.new).seen (forest (recs (H.view h.new).seen) trees.0) (least_of (forest (recs (H.view h.new).seen) trees.0)) cursor.new }
 {
     match op {
@@ -276,11 +277,12 @@ fn delmin<H: Heap>(h: &mut H, job: &EventJob, top: Ref, cursor: &Cursor, run: &m
 }
 
 /// What an operation of a heap needs: in the second stage of a min or a delmin the trees of the list. The number of places is exact. No
-/// operation has cells to pass one by one: in the second stage of a delmin the cursor tells its build the least tree.
+/// operation has cells to pass one by one: the cursor of a delmin tells its build the least tree, and any other stays.
 pub fn prepare_event<H: Heap>(h: &mut H, job: &EventJob, cursor: &mut Cursor) -> Prep
     requires job { IsJob (H.view h.old).seen job.now }
     requires kind { job.now.base.kind ≡ Kind.Heap }
     ensures quiet { Quiet (H.view h.old) (H.view h.new) }
+    ensures cursor { (job.now.op ≡ Op.Delmin → ⊥) → cursor.new ≡ cursor.old }
     ensures answer { EventPrepared is_heap_work (IsReadyWith cursor.new) (H.view h.new).seen job.now result }
 {
     let Stage::HeapPaid { top } = job.stage else {

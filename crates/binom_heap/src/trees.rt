@@ -44,31 +44,6 @@ pub struct FirstTree {
     pub rest: Ref,
 }
 
-/// The first tree of a list, if it has one.
-#[inline(always)]
-pub(crate) fn first_tree<H: Heap>(h: &mut H, list: Ref) -> Option<FirstTree>
-    requires { is_trees_only (recs (H.view h.old).seen) list.0 ≡ true }
-    ensures quiet { Quiet (H.view h.old) (H.view h.new) }
-    ensures none { result ≡ None → forest (recs (H.view h.old).seen) list.0 ≡ no_trees }
-    ensures some { IfSome result (λ f. IsFirst (H.view h.old).seen list.0 f) }
-{
-    match h.read(list) {
-        Rec::TCons { tree, rest } => match h.read(tree) {
-            Rec::Tree { rank, item, kids } => {
-                let tree = BinomialTree {
-                    place: tree,
-                    rank,
-                    item,
-                    kids,
-                };
-                Some(FirstTree { tree, rest })
-            }
-            _ => unreachable!(),
-        },
-        _ => None,
-    }
-}
-
 /// The first cell of a list of trees: the place of a tree, and of the trees after it.
 #[derive(Clone, Copy)]
 pub struct TreeCell {
@@ -87,6 +62,34 @@ pub(crate) fn tree_cell<H: Heap>(h: &mut H, list: Ref) -> Option<TreeCell>
     match h.read(list) {
         Rec::TCons { tree, rest } => Some(TreeCell { tree, rest }),
         _ => None,
+    }
+}
+
+/// The first tree of a list, if it has one.
+#[inline(always)]
+pub(crate) fn first_tree<H: Heap>(h: &mut H, list: Ref) -> Option<FirstTree>
+    requires { is_trees_only (recs (H.view h.old).seen) list.0 ≡ true }
+    ensures quiet { Quiet (H.view h.old) (H.view h.new) }
+    ensures none { result ≡ None → forest (recs (H.view h.old).seen) list.0 ≡ no_trees }
+    ensures some { IfSome result (λ f. IsFirst (H.view h.old).seen list.0 f) }
+{
+    let Some(cell) = tree_cell(h, list) else {
+        return None;
+    };
+    match h.read(cell.tree) {
+        Rec::Tree { rank, item, kids } => {
+            let tree = BinomialTree {
+                place: cell.tree,
+                rank,
+                item,
+                kids,
+            };
+            Some(FirstTree {
+                tree,
+                rest: cell.rest,
+            })
+        }
+        _ => unreachable!(),
     }
 }
 

@@ -66,6 +66,9 @@ paid_places-requires g c =
 pub returns-in-Some-clause-quiet : goal.returns-in-Some-clause-quiet
 returns-in-Some-clause-quiet g c = Quiet_trans (Quiet_trans c.read_top-paid.ensures.quiet c.value_place.ensures.quiet) c.paid_places.ensures.quiet
 
+pub returns-in-Some-clause-cursor : goal.returns-in-Some-clause-cursor
+returns-in-Some-clause-cursor g c = c.paid_places.ensures.cursor
+
 pub returns-in-Some-clause-answer : goal.returns-in-Some-clause-answer
 returns-in-Some-clause-answer g c =
     let d = (goal.at.returns-in-Some-clause-answer g c).In-Some in
