@@ -3,16 +3,16 @@ use Rattle.std.proofs.Common.{◌≡◌, ℕ, suc, ◌+◌, ◌*◌, eqb, leb, m
 use Rattle.std.proofs.lemmas.Bool.{and_parts, eq-eqb, ne_eqb, cond-true, cond-false}
 use Rattle.heap_store.specs.Span.{Span}
 use Rattle.heap_store.specs.World.{World, recs}
-use Rattle.heap_store.specs.Forest.{Forest, no_trees, a_tree, add_tree, forest, is_trees_only, ranks_rise}
+use Rattle.heap_store.specs.Forest.{Forest, no_trees, a_tree, in_front, add_tree, forest, is_trees_only, ranks_rise}
 use Rattle.heap_store.specs.Lawful.{IsLawful}
 use Rattle.heap_store.specs.View.{View, Quiet}
 use Rattle.binom_heap.specs.declared.trees.BinomialTree.{BinomialTree}
 use Rattle.binom_heap.specs.declared.trees.FirstTree.{FirstTree}
 use Rattle.binom_heap.specs.Trees.{IsFirst, linked_kids, trees_met}
-use Rattle.binom_heap.specs.Laying.{MayPrecede, MayInsert, MayLink, Linked, Laid}
-use Rattle.binom_heap.proofs.FirstTrees.{FirstIs, tree_before, first_is, first_up}
+use Rattle.binom_heap.specs.Laying.{MayPutCell, MayInsert, MayLink, Linked, Laid}
+use Rattle.binom_heap.proofs.FirstTrees.{FirstIs, tree_forest, first_is, first_up}
 use Rattle.binom_heap.proofs.RunLaws.{quiet_puts, puts_trans}
-use Rattle.binom_heap.proofs.Linking.{forest_up, kids_up, tree_up, list_up}
+use Rattle.binom_heap.proofs.Linking.{forest_up, kids_up, tree_up, list_up, tree_shown}
 
 -- ---- what was laid, told of an earlier view and of equal trees
 
@@ -53,16 +53,17 @@ met_none rank item kids (a_tree rank' item' kids' more) h = go (eqb rank rank') 
     go true h = absurd (omega (arith, h))
     go false h = refl
 
-pub insert_precede : {v : View} {run : Span} {t : BinomialTree} {list : ℕ} → MayInsert v run t list → MayPrecede v run t list
-insert_precede k = record { held = k.held; room = omega (arith, k.room); tree_is = k.tree_is; list_is = k.list_is }
+pub insert_cell : {v : View} {run : Span} {t : BinomialTree} {list : ℕ} → MayInsert v run t list → MayPutCell v run t.place.0 list
+insert_cell k = record { held = k.held; room = omega (arith, k.room); there = tree_shown k.tree_is; low = k.tree_is.low; list_is = k.list_is }
 
 -- the end, where the list has no tree of the rank
-pub insert_end : {v seen new : View} {run run' : Span} {t : BinomialTree} {list place : ℕ} → IsLawful v.seen → Quiet v seen → MayInsert v run t list → trees_met t.rank (forest (recs v.seen) list) ≡ 0
-    → Laid seen new run run' 1 place (tree_before (forest (recs seen.seen)) t (forest (recs seen.seen) list)) → Laid v new run run' (2 * trees_met t.rank (forest (recs v.seen) list) + 1) place (add_tree t.rank t.item.0 (forest (recs v.seen) t.kids.0) (forest (recs v.seen) list))
-insert_end {v} {seen} {new} {run} {run'} {t} {list} law q k none d =
+pub insert_end : {v seen new : View} {run run' : Span} {t : BinomialTree} {list place : ℕ} → IsLawful v.seen → Quiet v seen → IsLawful seen.seen → MayInsert v run t list → trees_met t.rank (forest (recs v.seen) list) ≡ 0
+    → Laid seen new run run' 1 place (in_front (forest (recs seen.seen) t.place.0) (forest (recs seen.seen) list)) → Laid v new run run' (2 * trees_met t.rank (forest (recs v.seen) list) + 1) place (add_tree t.rank t.item.0 (forest (recs v.seen) t.kids.0) (forest (recs v.seen) list))
+insert_end {v} {seen} {new} {run} {run'} {t} {list} law q law' k none d =
     let kids = kids_up law q.grows t.place.0 t k.tree_is.there in
     let more = forest_up law q.grows list k.list_is.trees in
-    let all : tree_before (forest (recs seen.seen)) t (forest (recs seen.seen) list) ≡ add_tree t.rank t.item.0 (forest (recs v.seen) t.kids.0) (forest (recs v.seen) list) = rw (kids, more) (sym (met_none t.rank t.item.0 (forest (recs v.seen) t.kids.0) (forest (recs v.seen) list) none)) in
+    let first = tree_forest law' t (q.grows.records _ _ k.tree_is.there) in
+    let all : in_front (forest (recs seen.seen) t.place.0) (forest (recs seen.seen) list) ≡ add_tree t.rank t.item.0 (forest (recs v.seen) t.kids.0) (forest (recs v.seen) list) = rw (first, kids, more) (sym (met_none t.rank t.item.0 (forest (recs v.seen) t.kids.0) (forest (recs v.seen) list) none)) in
     quiet_laid q (laid_same (omega (arith, none)) all d)
 
 pub none_of_no_trees : (w : World) (list rank : ℕ) → forest (recs w) list ≡ no_trees → trees_met rank (forest (recs w) list) ≡ 0
@@ -166,6 +167,6 @@ inserting_next {v} {now} {seen} {new} {run} {then} {then'} {t} {sum} {linked} {l
     }
 
 -- the end
-pub inserting_end : {v now seen new : View} {run then after : Span} {t sum : BinomialTree} {list rest place : ℕ} → IsInserting v now run then t sum list rest → IsLawful now.seen → Quiet now seen → trees_met sum.rank (forest (recs now.seen) rest) ≡ 0
-    → Laid seen new then after 1 place (tree_before (forest (recs seen.seen)) sum (forest (recs seen.seen) rest)) → Inserted v run t list new after place
-inserting_end {new = new} {after = after} {place = place} k law q none d = k.lays new after place (insert_end law q k.asks none d)
+pub inserting_end : {v now seen new : View} {run then after : Span} {t sum : BinomialTree} {list rest place : ℕ} → IsInserting v now run then t sum list rest → IsLawful now.seen → Quiet now seen → IsLawful seen.seen → trees_met sum.rank (forest (recs now.seen) rest) ≡ 0
+    → Laid seen new then after 1 place (in_front (forest (recs seen.seen) sum.place.0) (forest (recs seen.seen) rest)) → Inserted v run t list new after place
+inserting_end {new = new} {after = after} {place = place} k law q law' none d = k.lays new after place (insert_end law q law' k.asks none d)

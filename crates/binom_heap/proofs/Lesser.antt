@@ -98,7 +98,7 @@ rest_rises {w} law passed list f only i rise =
     record { rest = rise_lower (passed + 1) (suc f.tree.rank) _ (omega (arith, early)) p.1; early = early }
 
 abbrev pub here_at : ℕ → Ref → FirstTree → LeastTree
-here_at n list f = record { before = n; at = list; item = f.tree.item }
+here_at n list f = record { at = list; item = f.tree.item; before = n }
 
 -- the first tree of all
 pub so_far_first : {w : World} → IsLawful w → (list : Ref) (f : FirstTree) → is_trees_only (recs w) list.0 ≡ true → IsFirst w list.0 f → ranks_rise 0 (forest (recs w) list.0) ≡ true → IsLeastSoFar w list.0 (here_at 0 list f) 1 f.rest.0
@@ -110,7 +110,6 @@ so_far_first {w} law list f only i rise =
       l = tree_at 0 f.tree.rank f.tree.item.0 kids;
       found = record {
         stands = record { before_is = refl; trees = only; forest_is = first.trees ∙ ap (a_tree f.tree.rank f.tree.item.0 kids) after };
-        low = omega arith;
         item = refl;
       };
       left_low = first.rest_low;
@@ -147,7 +146,6 @@ so_far_next {w} law list t passed left k f i best best_is = by (ltb f.tree.item.
       l = tree_at passed f.tree.rank f.tree.item.0 (forest (recs w) f.tree.kids.0);
       found = record {
         stands = record { before_is = refl; trees = k.only; forest_is = first.trees ∙ ap (a_tree f.tree.rank f.tree.item.0 (forest (recs w) f.tree.kids.0)) after };
-        low = omega (arith, k.left_low);
         item = refl;
       };
       left_low = omega (arith, first.rest_low, k.left_low);
@@ -171,5 +169,5 @@ pub so_far_all : {a b : World} → IsLawful a → Grows a b → (list : ℕ) →
 so_far_all {a} {b} law x list only t passed left k none =
     let all = forest_up law x list only in
     let is = k.is ∙ ap (λ (z : Forest). Some (lesser k.l passed (least_of z))) none in
-    let found : IsFound b list k.l t = record { stands = stands_up law x (sym all) k.found.stands; low = k.found.low; item = k.found.item } in
+    let found : IsFound b list k.l t = record { stands = stands_up law x (sym all) k.found.stands; item = k.found.item } in
     rw (all, is) found

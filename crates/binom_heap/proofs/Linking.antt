@@ -5,7 +5,6 @@ use Rattle.std.proofs.lemmas.Grind.{common_steps}
 use Rattle.std.proofs.lemmas.List.Folds.{list_all-append}
 use Rattle.std.proofs.lemmas.Bool.{and_parts, and_from, eq-eqb, leb-true, le-leb, lt-leb, cond-true, cond-false}
 use Rattle.lazy_rec.specs.declared.places.Ref.{Ref}
-use Rattle.lazy_rec.specs.declared.records.Rec.{Rec}
 use Rattle.lazy_rec.specs.declared.records.Rec.TheVariants.{TCons}
 use Rattle.lazy_rec.specs.declared.records.Sort.TheVariants as sorts
 use Rattle.lazy_rec.specs.Named.{sort_of, same_sort}
@@ -17,14 +16,14 @@ use Rattle.heap_store.specs.Forest.{Forest, no_trees, a_tree, in_front, forest, 
 use Rattle.heap_store.specs.Growth.{Grows}
 use Rattle.heap_store.specs.Lawful.{IsLawful}
 use Rattle.heap_store.specs.View.{View, IsLawfulView, Put, Fits}
-use Rattle.heap_store.proofs.GrowthLaws.{at_true, sorts_agree}
+use Rattle.heap_store.proofs.GrowthLaws.{at_true}
 use Rattle.heap_store.proofs.LawfulLaws.{lawful_names}
 use Rattle.heap_store.proofs.MeaningLaws.{means_is}
 use Rattle.heap_store.proofs.MadeLaws.{forest_kept, trees_only_kept}
 use Rattle.binom_heap.specs.declared.trees.BinomialTree.{BinomialTree}
 use Rattle.binom_heap.specs.Trees.{tree_record}
-use Rattle.binom_heap.specs.Laying.{Puts, IsTree, IsList, MayLink, MayPrecede, MayPutCell, Grown, Linked, Laid}
-use Rattle.binom_heap.proofs.TreeLaws.{TreeIs, tree_by_sort, forest_is, trees_only_is, trees_there}
+use Rattle.binom_heap.specs.Laying.{Puts, IsTree, IsList, MayLink, MayPutCell, Grown, Linked, Laid}
+use Rattle.binom_heap.proofs.TreeLaws.{forest_is, trees_only_is, trees_there}
 use Rattle.binom_heap.proofs.FirstTrees.{tree_before, tree_forest, cell_tree}
 use Rattle.binom_heap.proofs.RunLaws.{puts_none, puts_put, next_held}
 use Rattle.binom_heap.proofs.TreePuts.{IsFull, tree_full, fits_cell}
@@ -63,27 +62,6 @@ tree_up x le k = record { there = x.records _ _ k.there; low = omega (arith, k.l
 
 pub list_up : {a b : World} {l p q : ℕ} → IsLawful a → Grows a b → p ≤ q → IsList a l p → IsList b l q
 list_up {a} {b} {l} law x le k = record { trees = only_up law x l k.trees; low = omega (arith, k.low, le) }
-
--- ---- a tree in front of a list
-
-pub precede_fits : {v : View} → IsLawfulView v → (run : Span) (t : BinomialTree) (list : Ref) → MayPrecede v run t list.0 → Fits v run.next (TCons t.place list)
-precede_fits law run t list k = fits_cell law run.next (next_held k.held (omega (arith, k.room))) t list k.tree_is.there k.tree_is.low k.list_is.trees k.list_is.low
-
--- the list of a cell
-pub cell_forest : {w : World} → IsLawful w → (t : BinomialTree) (rest : Ref) (p : ℕ) → recs w t.place.0 ≡ Some (tree_record t) → recs w p ≡ Some (TCons t.place rest) → forest (recs w) p ≡ tree_before (forest (recs w)) t (forest (recs w) rest.0)
-cell_forest {w} law t rest p e f = forest_is (recs w) (lawful_names law) p _ f ∙ ap (λ z. in_front z (forest (recs w) rest.0)) (tree_forest law t e)
-
-pub preceded : {v new : View} → IsLawfulView v → IsLawfulView new → (run run' : Span) (t : BinomialTree) (list place : Ref) → MayPrecede v run t list.0 → Put v new run.next (TCons t.place list) → run' ≡ record run { next = run.next + 1 } → place.0 ≡ run.next → Laid v new run run' 1 place.0 (tree_before (forest (recs v.seen)) t (forest (recs v.seen) list.0))
-preceded {v} {new} law law' run run' t list place k p at place_is =
-    let here : recs new.seen place.0 ≡ Some (TCons t.place list) = rw place_is p.here in
-    let there = p.grows.records _ _ k.tree_is.there in
-    let kids = kids_up law.world p.grows t.place.0 t k.tree_is.there in
-    let more = forest_up law.world p.grows list.0 k.list_is.trees in
-    record {
-      puts = puts_put (puts_none v run k.held) p at refl;
-      list = record { trees = trees_only_is (recs new.seen) (lawful_names law'.world) place.0 _ here ∙ only_up law.world p.grows list.0 k.list_is.trees; low = rw (at, place_is) (omega arith) };
-      forest_is = cell_forest law'.world t list place.0 there here ∙ rw (kids, more) refl;
-    }
 
 -- ---- a cell, by the place of its tree
 
@@ -126,40 +104,39 @@ tree_kept {a} {b} law x tree h =
     let t = at_true (λ r. same_sort (sort_of r) sorts.Tree) (recs a tree) h in
     sym (forest_kept (recs a) (recs b) (lawful_names law) x.records tree (t.0, t.1))
 
-module _ {v : View} (law : IsLawful v.seen) (run : Span) (tree : Ref) (list : ℕ) (k : MayPutCell v run tree.0 list) where
-  pub there_is : (r : Rec) × (recs v.seen tree.0 ≡ Some r) × (same_sort (sort_of r) sorts.Tree ≡ true)
-  there_is = at_true (λ r. same_sort (sort_of r) sorts.Tree) (recs v.seen tree.0) k.there
+-- ---- a cell that is put
 
-  pub fields : TreeIs there_is.0
-  fields = tree_by_sort there_is.0 (sorts_agree (sort_of there_is.0) sorts.Tree there_is.2)
+pub cell_fits : {v : View} → IsLawfulView v → (run : Span) (tree list : Ref) → MayPutCell v run tree.0 list.0 → Fits v run.next (TCons tree list)
+cell_fits law run tree list k = fits_cell law run.next (next_held k.held (omega (arith, k.room))) tree list k.there k.low k.list_is.trees k.list_is.low
 
-  -- the tree at the place
-  abbrev pub tree_of : BinomialTree
-  tree_of = record { place = tree; rank = fields.rank; item = fields.item; kids = fields.kids }
+pub cell_laid : {v new : View} → IsLawfulView v → IsLawfulView new → (run run' : Span) (tree list place : Ref) → MayPutCell v run tree.0 list.0 → Put v new run.next (TCons tree list) → run' ≡ record run { next = run.next + 1 } → place.0 ≡ run.next → Laid v new run run' 1 place.0 (in_front (forest (recs v.seen) tree.0) (forest (recs v.seen) list.0))
+cell_laid {v} {new} law law' run run' tree list place k p at place_is =
+    let here : recs new.seen place.0 ≡ Some (TCons tree list) = rw place_is p.here in
+    let first = tree_kept law.world p.grows tree.0 k.there in
+    let more = forest_up law.world p.grows list.0 k.list_is.trees in
+    record {
+      puts = puts_put (puts_none v run k.held) p at refl;
+      list = record { trees = trees_only_is (recs new.seen) (lawful_names law'.world) place.0 _ here ∙ only_up law.world p.grows list.0 k.list_is.trees; low = rw (at, place_is) (omega arith) };
+      forest_is = forest_is (recs new.seen) (lawful_names law'.world) place.0 _ here ∙ rw (first, more) refl;
+    }
 
-  pub cell_precede : MayPrecede v run tree_of list
-  cell_precede = record { held = k.held; room = k.room; tree_is = record { there = there_is.1 ∙ ap Some fields.is; low = k.low }; list_is = k.list_is }
+-- of a tree with its fields
+pub tree_shown : {w : World} {t : BinomialTree} {p : ℕ} → IsTree w t p → holds (recs w) t.place.0 (λ r. same_sort (sort_of r) sorts.Tree) ≡ true
+tree_shown k = let e = k.there in rw e refl
 
-  pub cell_laid : {new : View} {run' : Span} {place : ℕ} → Laid v new run run' 1 place (tree_before (forest (recs v.seen)) tree_of (forest (recs v.seen) list)) → Laid v new run run' 1 place (in_front (forest (recs v.seen) tree.0) (forest (recs v.seen) list))
-  cell_laid d = record { puts = d.puts; list = d.list; forest_is = d.forest_is ∙ sym (ap (λ z. in_front z (forest (recs v.seen) list)) (tree_forest law tree_of cell_precede.tree_is.there)) }
-
--- the same for a tree with its fields
-pub precede_cell : {v : View} {run : Span} {t : BinomialTree} {list : ℕ} → MayPrecede v run t list → MayPutCell v run t.place.0 list
-precede_cell {v} {run} {t} {list} k = record { held = k.held; room = k.room; there = (let e = k.tree_is.there in rw e refl); low = k.tree_is.low; list_is = k.list_is }
-
-pub precede_laid : {v new : View} {run run' : Span} {t : BinomialTree} {list place : ℕ} → IsLawful v.seen → MayPrecede v run t list → Laid v new run run' 1 place (in_front (forest (recs v.seen) t.place.0) (forest (recs v.seen) list)) → Laid v new run run' 1 place (tree_before (forest (recs v.seen)) t (forest (recs v.seen) list))
-precede_laid {v} {new} {run} {run'} {t} {list} law k d = record { puts = d.puts; list = d.list; forest_is = d.forest_is ∙ ap (λ z. in_front z (forest (recs v.seen) list)) (tree_forest law t k.tree_is.there) }
+pub tree_laid : {v new : View} {run run' : Span} {t : BinomialTree} {f : Forest} {p place : ℕ} → IsLawful v.seen → IsTree v.seen t p → Laid v new run run' 1 place (in_front (forest (recs v.seen) t.place.0) f) → Laid v new run run' 1 place (tree_before (forest (recs v.seen)) t f)
+tree_laid {t = t} {f = f} law k d = record { puts = d.puts; list = d.list; forest_is = d.forest_is ∙ ap (λ z. in_front z f) (tree_forest law t k.there) }
 
 -- ---- a tree that gets another one as its first child
 
-pub under_precede : {v : View} {run : Span} {top below : BinomialTree} → IsLawful v.seen → MayLink v run top below → MayPrecede v run below top.kids.0
-under_precede {v} {run} {top} {below} law k =
+pub under_cell : {v : View} {run : Span} {top below : BinomialTree} → IsLawful v.seen → MayLink v run top below → MayPutCell v run below.place.0 top.kids.0
+under_cell {v} {run} {top} {below} law k =
     let full = tree_full law top.place.0 top k.first_is.there in
-    record { held = k.held; room = omega (arith, k.room); tree_is = k.second_is; list_is = record { trees = full.kids; low = omega (arith, (lawful_names law top.place.0 _ k.first_is.there).0.0, k.first_is.low) } }
+    record { held = k.held; room = omega (arith, k.room); there = tree_shown k.second_is; low = k.second_is.low; list_is = record { trees = full.kids; low = omega (arith, (lawful_names law top.place.0 _ k.first_is.there).0.0, k.first_is.low) } }
 
 module _ {v v1 : View} (law : IsLawfulView v) (law1 : IsLawfulView v1) (run run1 : Span) (top below : BinomialTree) (kids : Ref) (k : MayLink v run top below) (le : top.item.0 ≤ below.item.0) (p : Put v v1 run.next (TCons below.place top.kids)) (at1 : run1 ≡ record run { next = run.next + 1 }) (kids_is : kids.0 ≡ run.next) where
   kids_laid : Laid v v1 run run1 1 kids.0 (tree_before (forest (recs v.seen)) below (forest (recs v.seen) top.kids.0))
-  kids_laid = preceded law law1 run run1 below top.kids kids (under_precede law.world k) p at1 kids_is
+  kids_laid = tree_laid law.world k.second_is (cell_laid law law1 run run1 below.place top.kids kids (under_cell law.world k) p at1 kids_is)
 
   pub grown_full : IsFull v1.seen (record { place = kids; rank = top.rank + 1; item = top.item; kids = kids })
   grown_full =

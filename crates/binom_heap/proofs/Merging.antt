@@ -4,17 +4,17 @@ use Rattle.std.proofs.lemmas.Grind.{common_steps}
 use Rattle.std.proofs.lemmas.Bool.{and_parts, lt-ltb}
 use Rattle.heap_store.specs.Span.{Span}
 use Rattle.heap_store.specs.World.{recs}
-use Rattle.heap_store.specs.Forest.{Forest, no_trees, a_tree, add_tree, merge_first, merge, forest, ranks_rise}
+use Rattle.heap_store.specs.Forest.{Forest, no_trees, a_tree, in_front, add_tree, merge_first, merge, forest, ranks_rise}
 use Rattle.heap_store.specs.Lawful.{IsLawful}
 use Rattle.heap_store.specs.View.{View, Quiet}
 use Rattle.binom_heap.specs.declared.trees.BinomialTree.{BinomialTree}
 use Rattle.binom_heap.specs.declared.trees.FirstTree.{FirstTree}
 use Rattle.binom_heap.specs.Trees.{IsFirst, linked_kids, weight, trees_met, first_places, merge_places}
-use Rattle.binom_heap.specs.Laying.{IsTree, IsList, MayPrecede, MayInsert, MayMerge, MayLink, Linked, Laid}
+use Rattle.binom_heap.specs.Laying.{IsTree, IsList, MayPutCell, MayInsert, MayMerge, MayLink, Linked, Laid}
 use Rattle.binom_heap.proofs.ForestLaws.{twice, rise_lower, merge_weight, merge_rises, rank_fits}
-use Rattle.binom_heap.proofs.FirstTrees.{FirstIs, tree_before, first_is}
+use Rattle.binom_heap.proofs.FirstTrees.{FirstIs, tree_before, tree_forest, first_is}
 use Rattle.binom_heap.proofs.RunLaws.{puts_none, puts_trans}
-use Rattle.binom_heap.proofs.Linking.{forest_up, kids_up, tree_up, list_up}
+use Rattle.binom_heap.proofs.Linking.{forest_up, kids_up, tree_up, list_up, tree_there_up, tree_kept, tree_shown}
 use Rattle.binom_heap.proofs.Inserting.{laid_same, quiet_laid}
 
 -- ---- merges of forests, by the ranks of their first trees
@@ -88,14 +88,14 @@ merge_second_empty {v} {seen} {run} {list1} {list2} law q k none =
 
 -- ---- a tree in front of what the rests make
 
-pub front_ask : {v v1 : View} {run run1 : Span} {n rest : ℕ} {f : Forest} {t : BinomialTree} → Laid v v1 run run1 n rest f → IsTree v.seen t run.next → run.next + (n + 1) ≤ run.end → MayPrecede v1 run1 t rest
-front_ask {v} {v1} {run} {run1} d t room = record { held = d.puts.held; room = omega (arith, room, d.puts.next, d.puts.same_end); tree_is = tree_up {a = v.seen} {p = run.next} d.puts.filled.grows (omega (arith, d.puts.next)) t; list_is = d.list }
+pub front_ask : {v v1 : View} {run run1 : Span} {n rest : ℕ} {f : Forest} {t : BinomialTree} → Laid v v1 run run1 n rest f → IsTree v.seen t run.next → run.next + (n + 1) ≤ run.end → MayPutCell v1 run1 t.place.0 rest
+front_ask {v} {v1} {run} {run1} {t = t'} d t room = record { held = d.puts.held; room = omega (arith, room, d.puts.next, d.puts.same_end); there = tree_there_up d.puts.filled.grows t'.place.0 (tree_shown t); low = omega (arith, t.low, d.puts.next); list_is = d.list }
 
-pub front_laid : {v v1 v2 : View} {run run1 run2 : Span} {n rest place : ℕ} {f : Forest} {t : BinomialTree} → IsLawful v.seen → Laid v v1 run run1 n rest f → IsTree v.seen t run.next → Laid v1 v2 run1 run2 1 place (tree_before (forest (recs v1.seen)) t (forest (recs v1.seen) rest)) → Laid v v2 run run2 (n + 1) place (tree_before (forest (recs v.seen)) t f)
+pub front_laid : {v v1 v2 : View} {run run1 run2 : Span} {n rest place : ℕ} {f : Forest} {t : BinomialTree} → IsLawful v.seen → Laid v v1 run run1 n rest f → IsTree v.seen t run.next → Laid v1 v2 run1 run2 1 place (in_front (forest (recs v1.seen) t.place.0) (forest (recs v1.seen) rest)) → Laid v v2 run run2 (n + 1) place (tree_before (forest (recs v.seen)) t f)
 front_laid {v} {v1} {v2} {run} {run1} {run2} {n} {rest} {place} {f} {t} law d tree e =
-    let kids = kids_up law d.puts.filled.grows t.place.0 t tree.there in
+    let first = tree_kept law d.puts.filled.grows t.place.0 (tree_shown tree) ∙ tree_forest law t tree.there in
     let more = d.forest_is in
-    record { puts = puts_trans d.puts e.puts; list = e.list; forest_is = e.forest_is ∙ rw (kids, more) refl }
+    record { puts = puts_trans d.puts e.puts; list = e.list; forest_is = e.forest_is ∙ rw (first, more) refl }
 
 -- ---- the first trees of both lists
 

@@ -6,12 +6,14 @@ use Rattle.lazy_rec.specs.declared.places.Ref.{Ref}
 use Rattle.lazy_rec.specs.declared.records.Rec.TheVariants.{TNil, TCons}
 use Rattle.lazy_rec.specs.declared.records.Sort.TheVariants as sorts
 use Rattle.lazy_rec.specs.Meaning.{means}
-use Rattle.heap_store.specs.World.{World, recs}
+use Rattle.lazy_rec.specs.Named.{sort_of, same_sort}
+use Rattle.heap_store.specs.World.{World, recs, holds}
 use Rattle.heap_store.specs.Forest.{forest, is_trees_only, ranks_fall}
 use Rattle.heap_store.specs.Lawful.{IsLawful}
 use Rattle.heap_store.specs.Hand.{contains, brings}
 use Rattle.heap_store.specs.View.{View, IsLawfulView, Fits}
 use Rattle.heap_store.proofs.NameLaws.{IsNamedWell}
+use Rattle.heap_store.proofs.GrowthLaws.{at_true, sorts_agree}
 use Rattle.heap_store.proofs.UnitLaws.{free}
 use Rattle.heap_store.proofs.RangeLaws.{range_fields, range_from}
 use Rattle.heap_store.proofs.WellNamed.{names_well_all}
@@ -61,12 +63,13 @@ fits_tree {v} law p held t k low =
       heights = refl;
     })) (free v.seen p (tree_record t) (v.hand.credits + brings rs v.hand.claims) refl)
 
-pub fits_cell : {v : View} → IsLawfulView v → (p : ℕ) → contains v.hand.reserved p ≡ true → (t : BinomialTree) (rest : Ref) → recs v.seen t.place.0 ≡ Some (tree_record t) → t.place.0 < p → is_trees_only (recs v.seen) rest.0 ≡ true → rest.0 < p → Fits v p (TCons t.place rest)
-fits_cell {v} law p held t rest e low only low' =
+pub fits_cell : {v : View} → IsLawfulView v → (p : ℕ) → contains v.hand.reserved p ≡ true → (tree rest : Ref) → holds (recs v.seen) tree.0 (λ r. same_sort (sort_of r) sorts.Tree) ≡ true → tree.0 < p → is_trees_only (recs v.seen) rest.0 ≡ true → rest.0 < p → Fits v p (TCons tree rest)
+fits_cell {v} law p held tree rest there low only low' =
     let rs = recs v.seen in
-    fits_value p (TCons t.place rest) refl (laws_told law p held (TCons t.place rest) (record {
-      range = range_from (TCons t.place rest) (omega arith, (published_fits law t.place.0 (tree_record t, e), (published_fits law rest.0 (trees_there rs rest.0 only), tt))) refl;
-      names = names_well_all rs rs (λ q r f. f) p ((t.place.0, sorts.Tree) ∷ (rest.0, sorts.TreeList) ∷ []) ((low, tree_record t, e, refl), (trees_named law.world p rest.0 only low', tt));
+    let t = at_true (λ r. same_sort (sort_of r) sorts.Tree) (rs tree.0) there in
+    fits_value p (TCons tree rest) refl (laws_told law p held (TCons tree rest) (record {
+      range = range_from (TCons tree rest) (omega arith, (published_fits law tree.0 (t.0, t.1), (published_fits law rest.0 (trees_there rs rest.0 only), tt))) refl;
+      names = names_well_all rs rs (λ q r f. f) p ((tree.0, sorts.Tree) ∷ (rest.0, sorts.TreeList) ∷ []) ((low, t.0, t.1, sorts_agree (sort_of t.0) sorts.Tree t.2), (trees_named law.world p rest.0 only low', tt));
       sizes = refl;
       unmixed = refl;
       bank_queue = refl;
@@ -75,4 +78,4 @@ fits_cell {v} law p held t rest e low only low' =
       cat = refl;
       finger = refl;
       heights = refl;
-    })) (free v.seen p (TCons t.place rest) (v.hand.credits + brings rs v.hand.claims) refl)
+    })) (free v.seen p (TCons tree rest) (v.hand.credits + brings rs v.hand.claims) refl)

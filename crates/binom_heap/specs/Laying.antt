@@ -54,13 +54,6 @@ pub record IsList (w : World) (list place : ℕ) : Type 0 where
   pub trees : is_trees_only (recs w) list ≡ true
   pub low : list < place
 
--- what asks the put of a tree in front of a list
-pub record MayPrecede (v : View) (run : Span) (tree : BinomialTree) (list : ℕ) : Type 0 where
-  pub held : IsInHand v.hand run
-  pub room : run.next + 1 ≤ run.end
-  pub tree_is : IsTree v.seen tree run.next
-  pub list_is : IsList v.seen list run.next
-
 -- what asks the put of a cell, which has the place of a published tree in front of a list
 pub record MayPutCell (v : View) (run : Span) (tree list : ℕ) : Type 0 where
   pub held : IsInHand v.hand run

@@ -54,7 +54,6 @@ pub record StandsAt (w : World) (f : Forest) (l : Least) (place before : ℕ) : 
 -- where the tree stands in the list, and its root
 pub record IsFound (w : World) (list : ℕ) (l : Least) (t : LeastTree) : Type 0 where
   pub stands : StandsAt w (forest (recs w) list) l t.at.0 t.before
-  pub low : t.at.0 ≤ list
   pub item : t.item.0 ≡ l.item
 
 -- the tree that was found is that one

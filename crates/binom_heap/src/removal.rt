@@ -10,12 +10,12 @@ use crate::trees::{first_tree, put_cell, tree_cell};
 use heap_store::{Heap, Run};
 use lazy_rec::{Item, Ref};
 
-/// The first tree with the least root of a list: how many trees stand before it, the list that begins with it, and its root.
+/// The first tree with the least root of a list: the list that begins with it, its root, and how many trees stand before it.
 #[derive(Clone, Copy)]
 pub struct LeastTree {
-    pub before: u32,
     pub at: Ref,
     pub item: Item,
+    pub before: u32,
 }
 
 /// The first tree with the least root of a list, if it has any.
@@ -29,17 +29,17 @@ pub(crate) fn least_tree<H: Heap>(h: &mut H, list: Ref) -> Option<LeastTree>
         return None;
     };
     let mut least = LeastTree {
-        before: 0,
         at: list,
         item: first.tree.item,
+        before: 0,
     };
     let mut passed = 1;
     let mut rest = first.rest;
     while let Some(next) = first_tree(h, rest) {
         let here = LeastTree {
-            before: passed,
             at: rest,
             item: next.tree.item,
+            before: passed,
         };
         least = lesser(least, here);
         passed += 1;

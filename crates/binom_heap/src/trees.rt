@@ -20,7 +20,7 @@ ghost use Rattle.heap_store.specs.World.{recs};
 ghost use Rattle.heap_store.specs.View.{Quiet};
 ghost use Rattle.heap_store.specs.Forest.{no_trees, a_tree, in_front, add_tree, merge, forest, is_trees_only};
 ghost use Rattle.binom_heap.specs.Trees.{IsFirst, trees_met, merge_places};
-ghost use Rattle.binom_heap.specs.Laying.{MayLink, Linked, MayPrecede, MayPutCell, MayInsert, MayMerge, Grown, Laid};
+ghost use Rattle.binom_heap.specs.Laying.{MayLink, Linked, MayPutCell, MayInsert, MayMerge, Grown, Laid};
 
 use heap_store::{Heap, Run};
 use lazy_rec::{Item, Rec, Ref};
@@ -180,16 +180,7 @@ pub(crate) fn insert_tree<H: Heap>(h: &mut H, tree: BinomialTree, list: Ref, run
         sum = link(h, sum, first.tree, run);
         rest = first.rest;
     }
-    put_first(h, sum, rest, run)
-}
-
-/// A tree in front of a list.
-#[inline(always)]
-pub(crate) fn put_first<H: Heap>(h: &mut H, tree: BinomialTree, list: Ref, run: &mut Run) -> Ref
-    requires { MayPrecede (H.view h.old) run.old tree list.0 }
-    ensures { Laid (H.view h.old) (H.view h.new) run.old run.new 1 result.0 (a_tree tree.rank tree.item.0 (forest (recs (H.view h.old).seen) tree.kids.0) (forest (recs (H.view h.old).seen) list.0)) }
-{
-    put_cell(h, tree.place, list, run)
+    put_cell(h, sum.place, rest, run)
 }
 
 /// A cell that has a tree's place in front of a list.
@@ -215,11 +206,11 @@ pub(crate) fn merge<H: Heap>(h: &mut H, list1: Ref, list2: Ref, run: &mut Run) -
     };
     if a.tree.rank < b.tree.rank {
         let rest = merge(h, a.rest, list2, run);
-        return put_first(h, a.tree, rest, run);
+        return put_cell(h, a.tree.place, rest, run);
     }
     if b.tree.rank < a.tree.rank {
         let rest = merge(h, list1, b.rest, run);
-        return put_first(h, b.tree, rest, run);
+        return put_cell(h, b.tree.place, rest, run);
     }
     let rest = merge(h, a.rest, b.rest, run);
     let linked = link(h, a.tree, b.tree, run);

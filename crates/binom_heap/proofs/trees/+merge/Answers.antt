@@ -48,9 +48,9 @@ merge-rest-requires g t c κs within =
     let low = lower1 (law2 g t d) c.args.run.now _ _ (asked g t d) _ _ (first1 g t d) (first2 g t d) in
     (omega (arith, low), (within, ask1 (law2 g t d) c.args.run.now _ _ (asked g t d) _ _ (first1 g t d) (first2 g t d) (omega arith)))
 
-pub put_first-requires : goal.put_first-requires
-put_first-requires g t c =
-    let d = (goal.at.put_first-requires g t c).In-Some-first_tree in
+pub put_cell-requires : goal.put_cell-requires
+put_cell-requires g t c =
+    let d = (goal.at.put_cell-requires g t c).In-Some-first_tree in
     let count = count1 (law2 g t d) c.args.run.now _ _ (asked g t d) _ _ (first1 g t d) (first2 g t d) (omega arith) in
     front_ask c.merge-rest.ensures (tree1 (law2 g t d) c.args.run.now _ _ (asked g t d) _ _ (first1 g t d) (first2 g t d)) (omega (arith, count, (asked g t d).room))
 
@@ -59,7 +59,7 @@ returns-then-a-b g t c =
     let d = (goal.at.returns-then-a-b g t c).In-Some-first_tree in
     let count = count1 (law2 g t d) c.args.run.now _ _ (asked g t d) _ _ (first1 g t d) (first2 g t d) (omega arith) in
     let merged = merged1 (law2 g t d) c.args.run.now _ _ (asked g t d) _ _ (first1 g t d) (first2 g t d) (omega arith) in
-    merge_same (g.met.H.Heap.lawful c.args.h.now).world (both_quiet g t d) c.requires (rw (count, merged) (front_laid (law2 g t d) c.merge-rest.ensures (tree1 (law2 g t d) c.args.run.now _ _ (asked g t d) _ _ (first1 g t d) (first2 g t d)) c.put_first.ensures))
+    merge_same (g.met.H.Heap.lawful c.args.h.now).world (both_quiet g t d) c.requires (rw (count, merged) (front_laid (law2 g t d) c.merge-rest.ensures (tree1 (law2 g t d) c.args.run.now _ _ (asked g t d) _ _ (first1 g t d) (first2 g t d)) c.put_cell.ensures))
 
 -- ---- the second list's tree in front
 
@@ -69,9 +69,9 @@ merge-rest-requires-then-b-a g t c κs within =
     let low = lower2 (law2 g t d) c.args.run.now _ _ (asked g t d) _ _ (first1 g t d) (first2 g t d) in
     (omega (arith, low), (within, ask2 (law2 g t d) c.args.run.now _ _ (asked g t d) _ _ (first1 g t d) (first2 g t d) (omega arith)))
 
-pub put_first-requires-then-b-a : goal.put_first-requires-then-b-a
-put_first-requires-then-b-a g t c =
-    let d = (goal.at.put_first-requires-then-b-a g t c).In-Some-first_tree in
+pub put_cell-requires-then-b-a : goal.put_cell-requires-then-b-a
+put_cell-requires-then-b-a g t c =
+    let d = (goal.at.put_cell-requires-then-b-a g t c).In-Some-first_tree in
     let count = count2 (law2 g t d) c.args.run.now _ _ (asked g t d) _ _ (first1 g t d) (first2 g t d) (omega arith) in
     front_ask c.merge-rest-then-b-a.ensures (tree2 (law2 g t d) c.args.run.now _ _ (asked g t d) _ _ (first1 g t d) (first2 g t d)) (omega (arith, count, (asked g t d).room))
 
@@ -80,7 +80,7 @@ returns-then-b-a g t c =
     let d = (goal.at.returns-then-b-a g t c).In-Some-first_tree in
     let count = count2 (law2 g t d) c.args.run.now _ _ (asked g t d) _ _ (first1 g t d) (first2 g t d) (omega arith) in
     let merged = merged2 (law2 g t d) c.args.run.now _ _ (asked g t d) _ _ (first1 g t d) (first2 g t d) (omega arith) in
-    merge_same (g.met.H.Heap.lawful c.args.h.now).world (both_quiet g t d) c.requires (rw (count, merged) (front_laid (law2 g t d) c.merge-rest-then-b-a.ensures (tree2 (law2 g t d) c.args.run.now _ _ (asked g t d) _ _ (first1 g t d) (first2 g t d)) c.put_first-then-b-a.ensures))
+    merge_same (g.met.H.Heap.lawful c.args.h.now).world (both_quiet g t d) c.requires (rw (count, merged) (front_laid (law2 g t d) c.merge-rest-then-b-a.ensures (tree2 (law2 g t d) c.args.run.now _ _ (asked g t d) _ _ (first1 g t d) (first2 g t d)) c.put_cell-then-b-a.ensures))
 
 -- ---- both linked
 

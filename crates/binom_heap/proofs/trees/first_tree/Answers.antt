@@ -1,4 +1,4 @@
-use Rattle.std.proofs.Common.{◌≡◌, ap, ◌∙◌, Some}
+use Rattle.std.proofs.Common.{ap, ◌∙◌, Some}
 use Rattle.heap_store.specs.World.{recs}
 use Rattle.heap_store.proofs.Steps.{Quiet_trans}
 use Rattle.heap_store.proofs.ReadLaws.{is_there, rec_back}

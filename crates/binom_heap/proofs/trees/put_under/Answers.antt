@@ -1,14 +1,14 @@
 use Rattle.std.proofs.Common.{◌+◌, arith, refl}
 use Rattle.binom_heap.proofs.RunLaws.{next_held}
 use Rattle.binom_heap.proofs.TreePuts.{fits_tree}
-use Rattle.binom_heap.proofs.Linking.{under_precede, precede_fits, grown_full, under_left, under_held, under_low, grown}
+use Rattle.binom_heap.proofs.Linking.{under_cell, cell_fits, grown_full, under_left, under_held, under_low, grown}
 use Rattle.binom_heap.proofs.trees.put_under.Goals as goal
 
 pub put-kids-requires : goal.put-kids-requires
 put-kids-requires g c =
     let law = g.met.H.Heap.lawful c.args.h.now in
-    let k = under_precede law.world c.requires.trees in
-    record { held = k.held; left = omega (arith, k.room); fits = precede_fits law c.args.run.now c.args.below c.args.top.kids k }
+    let k = under_cell law.world c.requires.trees in
+    record { held = k.held; left = omega (arith, k.room); fits = cell_fits law c.args.run.now c.args.below.place c.args.top.kids k }
 
 pub overflow_add-rank : goal.overflow_add-rank
 overflow_add-rank g c = omega (arith, c.requires.trees.rank)
