@@ -1,5 +1,5 @@
 //! The operations of banker's queues, each in one stage.
-ghost use Rattle.std.specs.Prelude.{◌≡◌, ◌+◌, ◌^◌, ◌<◌, ◌≤◌, true, Some};
+ghost use Rattle.std.specs.Prelude.{◌≡◌, ◌+◌, ◌≤◌, true, Some};
 ghost use Rattle.lazy_rec.specs.declared.limits.TheConstants.{MOST_ITEMS};
 ghost use Rattle.heap_store.specs.World.{recs};
 ghost use Rattle.heap_store.specs.Lawful.{is_any_bank_rotation};
@@ -9,7 +9,7 @@ ghost use Rattle.heap_store.specs.OneStage.{ends_at, is_end};
 ghost use Rattle.bank_queue.specs.Queue.{top_record, places_for, looks_at_front, IsReadyEvent};
 
 use crate::queue::{Top, put_top, read_top};
-use heap_store::{After, Cursor, EventJob, Heap, Prep, Run, Version, first_cell, value_place};
+use heap_store::{After, Cursor, EventJob, Heap, Prep, Run, first_cell, value_place};
 use lazy_rec::limits::MOST_ITEMS;
 use lazy_rec::{Kind, Op, Rec, Ref, Reply};
 
@@ -48,7 +48,7 @@ pub fn build_event<H: Heap>(h: &mut H, job: &EventJob, cursor: &Cursor, run: &mu
         Op::Snoc => snoc(h, job, run),
         Op::Tail => tail(h, job, run),
         Op::Head => head(h, job, run),
-        _ => same(&job.base, Reply::Number(u64::from(job.base.size))),
+        _ => job.at_base(Reply::Number(u64::from(job.base.size))),
     }
 }
 
@@ -85,26 +85,6 @@ fn plan(op: Op, top: &Top) -> Wants
     }
 }
 
-/// An event that makes nothing ends at its base's root.
-fn same(base: &Version, reply: Reply) -> After
-    ensures { result ≡ After.End base.now.root base.now.size reply }
-{
-    After::End {
-        root: base.root,
-        size: base.size,
-        reply,
-    }
-}
-
-/// The argument of an event, a number of 64 bits.
-#[inline]
-fn argument(job: &EventJob) -> u64
-    ensures same { result ≡ job.now.arg }
-    ensures small { job.now.arg < 2 ^ 64 }
-{
-    job.arg
-}
-
 fn snoc<H: Heap>(h: &mut H, job: &EventJob, run: &mut Run) -> After
     requires kind { job.now.base.kind ≡ Kind.Bankq }
     requires op { job.now.op ≡ Op.Snoc }
@@ -114,9 +94,9 @@ fn snoc<H: Heap>(h: &mut H, job: &EventJob, run: &mut Run) -> After
     ensures ends { is_end result ≡ true }
 {
     if job.base.size == MOST_ITEMS {
-        return same(&job.base, Reply::TooLong);
+        return job.at_base(Reply::TooLong);
     }
-    let item = argument(job);
+    let item = job.argument();
     let top = read_top(h, job.base.root);
     let rear = h.put(
         run,
@@ -149,7 +129,7 @@ fn tail<H: Heap>(h: &mut H, job: &EventJob, run: &mut Run) -> After
 {
     let top = read_top(h, job.base.root);
     if top.lenf == 0 {
-        return same(&job.base, Reply::Empty);
+        return job.at_base(Reply::Empty);
     }
     let cell = first_cell(h, top.front);
     let shorter = Top {
@@ -176,8 +156,8 @@ fn head<H: Heap>(h: &mut H, job: &EventJob, run: &mut Run) -> After
 {
     let top = read_top(h, job.base.root);
     if top.lenf == 0 {
-        return same(&job.base, Reply::Empty);
+        return job.at_base(Reply::Empty);
     }
     let cell = first_cell(h, top.front);
-    same(&job.base, Reply::Number(cell.value))
+    job.at_base(Reply::Number(cell.value))
 }

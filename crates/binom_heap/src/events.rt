@@ -17,7 +17,7 @@ use crate::heap::{Top, owed_after, put_meld, put_top, read_top};
 use crate::removal::{least_tree, put_again, turn};
 use crate::trees::{NO_TREES, first_tree};
 use crate::work::trees_of;
-use heap_store::{After, Cursor, EventJob, Heap, Prep, Run, Stage, Version, value_place};
+use heap_store::{After, Cursor, EventJob, Heap, Prep, Run, Stage, value_place};
 use lazy_rec::limits::MOST_ITEMS;
 use lazy_rec::{Item, Kind, Op, Rec, Ref, Reply};
 
@@ -51,26 +51,6 @@ fn meld_places(n: u32, m: u32) -> u32
     }
 }
 
-/// An event that makes nothing ends at its base's root.
-fn same(base: &Version, reply: Reply) -> After
-    ensures { result ≡ After.End base.now.root base.now.size reply }
-{
-    After::End {
-        root: base.root,
-        size: base.size,
-        reply,
-    }
-}
-
-/// The argument of an event, a number of 64 bits.
-#[inline]
-fn argument(job: &EventJob) -> u64
-    ensures same { result ≡ job.now.arg }
-    ensures small { job.now.arg < 2 ^ 64 }
-{
-    job.arg
-}
-
 /// Suspends the insert of an item, and shows two units of what is owed at most.
 fn insert<H: Heap>(h: &mut H, job: &EventJob, run: &mut Run) -> After
     requires kind { job.now.base.kind ≡ Kind.Heap }
@@ -80,9 +60,9 @@ fn insert<H: Heap>(h: &mut H, job: &EventJob, run: &mut Run) -> After
     ensures base { run.old.next ≡ run.old.end → ends_at result job.now.base.root.0 ≡ true }
 {
     if job.base.size == MOST_ITEMS {
-        return same(&job.base, Reply::TooLong);
+        return job.at_base(Reply::TooLong);
     }
-    let item = Item(argument(job));
+    let item = Item(job.argument());
     let top = read_top(h, job.base.root);
     let list = h.put(
         run,
@@ -115,7 +95,7 @@ fn meld<H: Heap>(h: &mut H, job: &EventJob, run: &mut Run) -> After
 {
     let size = job.base.size + job.other.size;
     if size > MOST_ITEMS {
-        return same(&job.base, Reply::TooLong);
+        return job.at_base(Reply::TooLong);
     }
     let first = read_top(h, job.base.root);
     let second = read_top(h, job.other.root);
@@ -139,7 +119,7 @@ fn pay<H: Heap>(h: &mut H, job: &EventJob, run: &mut Run) -> After
     ensures base { run.old.next ≡ run.old.end → ends_at result job.now.base.root.0 ≡ true }
 {
     if job.base.size == 0 {
-        return same(&job.base, Reply::Empty);
+        return job.at_base(Reply::Empty);
     }
     let owing = read_top(h, job.base.root);
     let paid = Top { owed: 0, ..owing };
@@ -320,6 +300,6 @@ pub fn build_event<H: Heap>(h: &mut H, job: &EventJob, cursor: &Cursor, run: &mu
             Stage::HeapPaid { top } => delmin(h, job, top, cursor, run),
             _ => pay(h, job, run),
         },
-        _ => same(&job.base, Reply::Number(u64::from(job.base.size))),
+        _ => job.at_base(Reply::Number(u64::from(job.base.size))),
     }
 }

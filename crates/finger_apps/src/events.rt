@@ -1,5 +1,5 @@
 //! The operations at the ends of sequences: `size`, pushes, pops and looks at both ends, each in one stage.
-ghost use Rattle.std.specs.Prelude.{◌≡◌, ◌^◌, ◌<◌, ◌≤◌, true, false, Some};
+ghost use Rattle.std.specs.Prelude.{◌≡◌, ◌≤◌, true, false, Some};
 ghost use Rattle.lazy_rec.specs.declared.limits.TheConstants.{MOST_ITEMS};
 ghost use Rattle.heap_store.specs.World.{recs, holds};
 ghost use Rattle.heap_store.specs.Completion.{Made};
@@ -70,7 +70,7 @@ pub fn build_event<H: Heap>(h: &mut H, job: &EventJob, cursor: &Cursor, run: &mu
         Op::Pushr => push(h, Side::Right, job, run),
         Op::First => look(h, Side::Left, job, run),
         Op::Last => look(h, Side::Right, job, run),
-        _ => same(&job.base, Reply::Number(u64::from(job.base.size))),
+        _ => job.at_base(Reply::Number(u64::from(job.base.size))),
     }
 }
 
@@ -89,26 +89,6 @@ fn places_of_push<H: Heap>(h: &mut H, side: Side, base: &Version) -> u32
     pushed_places(h, side, 1, base.root) + 1
 }
 
-/// An event that makes nothing ends at its base's root.
-fn same(base: &Version, reply: Reply) -> After
-    ensures { result ≡ After.End base.now.root base.now.size reply }
-{
-    After::End {
-        root: base.root,
-        size: base.size,
-        reply,
-    }
-}
-
-/// The argument of an event, a number of 64 bits.
-#[inline]
-fn argument(job: &EventJob) -> u64
-    ensures same { result ≡ job.now.arg }
-    ensures small { job.now.arg < 2 ^ 64 }
-{
-    job.arg
-}
-
 /// Pushes an item onto an end.
 #[inline(always)]
 fn push<H: Heap>(h: &mut H, side: Side, job: &EventJob, run: &mut Run) -> After
@@ -121,9 +101,9 @@ fn push<H: Heap>(h: &mut H, side: Side, job: &EventJob, run: &mut Run) -> After
     ensures ends { is_end result ≡ true }
 {
     if job.base.size == MOST_ITEMS {
-        return same(&job.base, Reply::TooLong);
+        return job.at_base(Reply::TooLong);
     }
-    let item = argument(job);
+    let item = job.argument();
     let leaf = h.put(run, Rec::Leaf { item: Item(item) });
     let own = Weight {
         size: 1,
@@ -154,7 +134,7 @@ fn pop<H: Heap>(h: &mut H, side: Side, job: &EventJob, run: &mut Run) -> After
     ensures ends { is_end result ≡ true }
 {
     if job.base.size == 0 {
-        return same(&job.base, Reply::Empty);
+        return job.at_base(Reply::Empty);
     }
     let size = job.base.size - 1;
     let whole = Weight { size, key: Item(0) };
@@ -177,7 +157,7 @@ fn look<H: Heap>(h: &mut H, side: Side, job: &EventJob, run: &mut Run) -> After
     ensures ends { is_end result ≡ true }
 {
     match end_item(h, side, job.base.root) {
-        Some(item) => same(&job.base, Reply::Number(item)),
-        None => same(&job.base, Reply::Empty),
+        Some(item) => job.at_base(Reply::Number(item)),
+        None => job.at_base(Reply::Empty),
     }
 }

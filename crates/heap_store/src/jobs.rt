@@ -90,6 +90,31 @@ pub enum After {
     Next(EventJob),
 }
 
+impl EventJob {
+    ghost use Rattle.std.specs.Prelude.{◌^◌};
+
+    /// The argument, a number of 64 bits.
+    #[inline(always)]
+    pub fn argument(&self) -> u64
+        ensures same { result ≡ self.now.arg }
+        ensures small { self.now.arg < 2 ^ 64 }
+    {
+        self.arg
+    }
+
+    /// The end of an event that makes nothing: its version is its base's root.
+    #[inline(always)]
+    pub fn at_base(&self, reply: Reply) -> After
+        ensures { result ≡ After.End self.now.base.root self.now.base.size reply }
+    {
+        After::End {
+            root: self.base.root,
+            size: self.base.size,
+            reply,
+        }
+    }
+}
+
 /// The kinds of pending work that somebody can do.
 pub trait Jobs {
     /// Whether a record is work of these kinds.

@@ -1,12 +1,12 @@
 //! The operations of streams, each in one stage.
-ghost use Rattle.std.specs.Prelude.{◌≡◌, ◌+◌, ◌^◌, ◌<◌, ◌≤◌, true};
+ghost use Rattle.std.specs.Prelude.{◌≡◌, ◌+◌, ◌≤◌, true};
 ghost use Rattle.heap_store.specs.View.{Quiet};
 ghost use Rattle.heap_store.specs.Jobs.{IsJob, EventPrepared, IsEventBuildable, IsEventBuilt};
 ghost use Rattle.heap_store.specs.OneStage.{ends_at, is_end};
 ghost use Rattle.lazy_stream.specs.Stream.{is_stream_work, places_for, looks_at_first, IsReadyEvent};
 
 use crate::stream::{put_top, read_front};
-use heap_store::{After, Cursor, EventJob, Heap, Prep, Run, Version, first_cell, value_place};
+use heap_store::{After, Cursor, EventJob, Heap, Prep, Run, first_cell, value_place};
 use lazy_rec::limits::MOST_ITEMS;
 use lazy_rec::{Kind, Op, Rec, Ref, Reply};
 
@@ -48,7 +48,7 @@ pub fn build_event<H: Heap>(h: &mut H, job: &EventJob, cursor: &Cursor, run: &mu
         Op::Reverse => reverse(h, job, run),
         Op::Tail => tail(h, job, run),
         Op::Head => head(h, job, run),
-        _ => same(&job.base, Reply::Number(u64::from(job.base.size))),
+        _ => job.at_base(Reply::Number(u64::from(job.base.size))),
     }
 }
 
@@ -88,17 +88,6 @@ fn places(op: Op, size: u32, other: u32) -> u32
     }
 }
 
-/// An event that makes nothing ends at its base's root.
-fn same(base: &Version, reply: Reply) -> After
-    ensures { result ≡ After.End base.now.root base.now.size reply }
-{
-    After::End {
-        root: base.root,
-        size: base.size,
-        reply,
-    }
-}
-
 /// An event that made a version.
 fn ended(root: Ref, size: u32) -> After
     ensures { result ≡ After.End root size Reply.Ok }
@@ -110,15 +99,6 @@ fn ended(root: Ref, size: u32) -> After
     }
 }
 
-/// The argument of an event, a number of 64 bits.
-#[inline]
-fn argument(job: &EventJob) -> u64
-    ensures same { result ≡ job.now.arg }
-    ensures small { job.now.arg < 2 ^ 64 }
-{
-    job.arg
-}
-
 fn cons<H: Heap>(h: &mut H, job: &EventJob, run: &mut Run) -> After
     requires kind { job.now.base.kind ≡ Kind.Stream }
     requires op { job.now.op ≡ Op.Cons }
@@ -128,9 +108,9 @@ fn cons<H: Heap>(h: &mut H, job: &EventJob, run: &mut Run) -> After
     ensures ends { is_end result ≡ true }
 {
     if job.base.size == MOST_ITEMS {
-        return same(&job.base, Reply::TooLong);
+        return job.at_base(Reply::TooLong);
     }
-    let item = argument(job);
+    let item = job.argument();
     let rest = read_front(h, job.base.root);
     let front = h.put(
         run,
@@ -155,7 +135,7 @@ fn append<H: Heap>(h: &mut H, job: &EventJob, run: &mut Run) -> After
 {
     let size = job.base.size + job.other.size;
     if size > MOST_ITEMS {
-        return same(&job.base, Reply::TooLong);
+        return job.at_base(Reply::TooLong);
     }
     let xs = read_front(h, job.base.root);
     let ys = read_front(h, job.other.root);
@@ -210,7 +190,7 @@ fn tail<H: Heap>(h: &mut H, job: &EventJob, run: &mut Run) -> After
     ensures ends { is_end result ≡ true }
 {
     if job.base.size == 0 {
-        return same(&job.base, Reply::Empty);
+        return job.at_base(Reply::Empty);
     }
     let front = read_front(h, job.base.root);
     let cell = first_cell(h, front);
@@ -228,9 +208,9 @@ fn head<H: Heap>(h: &mut H, job: &EventJob, run: &mut Run) -> After
     ensures ends { is_end result ≡ true }
 {
     if job.base.size == 0 {
-        return same(&job.base, Reply::Empty);
+        return job.at_base(Reply::Empty);
     }
     let front = read_front(h, job.base.root);
     let cell = first_cell(h, front);
-    same(&job.base, Reply::Number(cell.value))
+    job.at_base(Reply::Number(cell.value))
 }

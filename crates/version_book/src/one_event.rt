@@ -17,14 +17,6 @@ use crate::row_steps::begin;
 use heap_store::{EventJob, Heap, Rows};
 use lazy_rec::{Event, Kind, Op};
 
-/// The argument of an event, a number of 64 bits.
-fn argument(job: &EventJob) -> u64
-    ensures same { result ≡ job.now.arg }
-    ensures small { job.now.arg < 2 ^ 64 }
-{
-    job.arg
-}
-
 /// The event of a call: 0 stands in the fields that the operation doesn't use.
 pub(crate) fn event_of_call(job: &EventJob) -> Event
     ensures is { result ≡ event_of_call job.now.op job.now.base job.now.other job.now.arg }
@@ -38,7 +30,7 @@ pub(crate) fn event_of_call(job: &EventJob) -> Event
         } else {
             0
         },
-        arg: argument(job),
+        arg: job.argument(),
     }
 }
 

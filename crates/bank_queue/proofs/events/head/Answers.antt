@@ -21,9 +21,9 @@ top g c = build_later c.read_top-top.ensures.quiet.grows (g.met.H.Heap.lawful c.
 
 pub returns-then-top-eq0 : goal.returns-then-top-eq0
 returns-then-top-eq0 g c = record {
-  built = none_built c.read_top-top.ensures.quiet (g.met.H.Heap.lawful c.read_top-top.new.h).world (top g (goal.at.returns-then-top-eq0 g c).After-read_top-top) c.requires.kind (ap (λ o. looks_at_front o 1) c.requires.op) c.if-top-eq0.true c.same.result c.same.ensures;
-  base = λ _. same_root _ _ _ c.same.result c.same.ensures;
-  ends = ap is_end c.same.ensures;
+  built = none_built c.read_top-top.ensures.quiet (g.met.H.Heap.lawful c.read_top-top.new.h).world (top g (goal.at.returns-then-top-eq0 g c).After-read_top-top) c.requires.kind (ap (λ o. looks_at_front o 1) c.requires.op) c.if-top-eq0.true c.at_base.result c.at_base.ensures;
+  base = λ _. same_root _ _ _ c.at_base.result c.at_base.ensures;
+  ends = ap is_end c.at_base.ensures;
 }
 
 pub first_cell-cell-requires : goal.first_cell-cell-requires
@@ -37,7 +37,7 @@ returns g c =
     let k = build_later (grows_trans c.read_top-top.ensures.quiet.grows c.first_cell-cell.ensures.quiet.grows) (g.met.H.Heap.lawful c.first_cell-cell.new.h).world c.requires.build c.requires.kind c.read_top-top.result c.read_top-top.ensures.top in
     let h = item_cell (g.met.H.Heap.lawful c.first_cell-cell.new.h).world c.read_top-top.result.front.0 _ _ _ k.top.old.well.front_items (value_up _ _ c.first_cell-cell.ensures.quiet.grows c.read_top-top.result.front.0 _ c.first_cell-cell.ensures.cell) in
     record {
-      built = head_built (Quiet_trans c.read_top-top.ensures.quiet c.first_cell-cell.ensures.quiet) (g.met.H.Heap.lawful c.first_cell-cell.new.h).world k c.requires.kind c.requires.op c.first_cell-cell.result.value c.first_cell-cell.result.rest h (k.known (looks_some c.args.job.now.op c.read_top-top.result.lenf (ap (λ o. looks_at_front o 1) c.requires.op) (omega arith))) c.same-2.result c.same-2.ensures;
-      base = λ _. same_root _ _ _ c.same-2.result c.same-2.ensures;
-      ends = ap is_end c.same-2.ensures;
+      built = head_built (Quiet_trans c.read_top-top.ensures.quiet c.first_cell-cell.ensures.quiet) (g.met.H.Heap.lawful c.first_cell-cell.new.h).world k c.requires.kind c.requires.op c.first_cell-cell.result.value c.first_cell-cell.result.rest h (k.known (looks_some c.args.job.now.op c.read_top-top.result.lenf (ap (λ o. looks_at_front o 1) c.requires.op) (omega arith))) c.at_base-2.result c.at_base-2.ensures;
+      base = λ _. same_root _ _ _ c.at_base-2.result c.at_base-2.ensures;
+      ends = ap is_end c.at_base-2.ensures;
     }

@@ -14,9 +14,9 @@ use Rattle.bank_queue.proofs.events.snoc.Goals.{After-read_top-top, After-put-re
 
 pub returns-then-job-eq-MOST_ITEMS : goal.returns-then-job-eq-MOST_ITEMS
 returns-then-job-eq-MOST_ITEMS g c = record {
-  built = full_built (g.met.H.Heap.lawful c.args.h.now).world c.requires.build c.requires.kind c.requires.op c.if-job-eq-MOST_ITEMS.true c.same.result c.same.ensures;
-  base = λ _. same_root _ _ _ c.same.result c.same.ensures;
-  ends = ap is_end c.same.ensures;
+  built = full_built (g.met.H.Heap.lawful c.args.h.now).world c.requires.build c.requires.kind c.requires.op c.if-job-eq-MOST_ITEMS.true c.at_base.result c.at_base.ensures;
+  base = λ _. same_root _ _ _ c.at_base.result c.at_base.ensures;
+  ends = ap is_end c.at_base.ensures;
 }
 
 pub read_top-top-requires : goal.read_top-top-requires

@@ -24,9 +24,9 @@ top g c = build_later c.read_top-top.ensures.quiet.grows (g.met.H.Heap.lawful c.
 
 pub returns-then-top-eq0 : goal.returns-then-top-eq0
 returns-then-top-eq0 g c = record {
-  built = none_built c.read_top-top.ensures.quiet (g.met.H.Heap.lawful c.read_top-top.new.h).world (top g (goal.at.returns-then-top-eq0 g c).After-read_top-top) c.requires.kind (ap (λ o. looks_at_front o 1) c.requires.op) c.if-top-eq0.true c.same.result c.same.ensures;
-  base = λ _. same_root _ _ _ c.same.result c.same.ensures;
-  ends = ap is_end c.same.ensures;
+  built = none_built c.read_top-top.ensures.quiet (g.met.H.Heap.lawful c.read_top-top.new.h).world (top g (goal.at.returns-then-top-eq0 g c).After-read_top-top) c.requires.kind (ap (λ o. looks_at_front o 1) c.requires.op) c.if-top-eq0.true c.at_base.result c.at_base.ensures;
+  base = λ _. same_root _ _ _ c.at_base.result c.at_base.ensures;
+  ends = ap is_end c.at_base.ensures;
 }
 
 pub first_cell-cell-requires : goal.first_cell-cell-requires

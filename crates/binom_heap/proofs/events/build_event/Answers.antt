@@ -16,8 +16,8 @@ returns-in_default g c =
     let t = top_of_root (g.H.Heap.view c.args.h.now).seen job.base.root.0 (build_root b job.base b.base_job.base kind) in
     let k = build_top b job.base b.base_job.base kind t.0 t.1 in
     record {
-      base = λ _ _. same_root _ _ _ c.same.result c.same.ensures;
+      base = λ _ _. same_root _ _ _ c.at_base.result c.at_base.ensures;
       paid = λ top min stage. absurd (let z : ops.Size ≡ ops.Min = sym op ∙ min in cc);
       built = built_same (Quiet_refl (g.H.Heap.view c.args.h.now)) (no_nodes b (first_stage job b.base_job kind ops.Size op refl) (size_nodes job op)) job.base.root job.base.size _
-          (size_end (g.met.H.Heap.lawful c.args.h.now).world job kind (other_kind job b.base_job kind) op t.0 t.1 k.size) c.same.result (let n = c.from.ensures in rw n at c.same.ensures);
+          (size_end (g.met.H.Heap.lawful c.args.h.now).world job kind (other_kind job b.base_job kind) op t.0 t.1 k.size) c.at_base.result (let n = c.from.ensures in rw n at c.at_base.ensures);
     }

@@ -29,9 +29,9 @@ returns-then-size-gt-MOST_ITEMS g c =
     let l = build_top b job.other b.base_job.other other u.0 u.1 in
     let none : start_places job.op job.base.size job.other.size ≡ 0 = (let op = c.requires.op in rw op (no_place job.base.size job.other.size (omega arith))) in
     record {
-      base = λ _. same_root _ _ _ c.same.result c.same.ensures;
+      base = λ _. same_root _ _ _ c.at_base.result c.at_base.ensures;
       built = built_same (Quiet_refl (g.H.Heap.view c.args.h.now)) (no_nodes b (first_stage job b.base_job c.requires.kind ops.Meld c.requires.op refl) none) job.base.root job.base.size _
-          (long_end (g.met.H.Heap.lawful c.args.h.now).world job c.requires.kind other c.requires.op t.0 u.0 t.1 u.1 k.size l.size (omega arith)) c.same.result c.same.ensures;
+          (long_end (g.met.H.Heap.lawful c.args.h.now).world job c.requires.kind other c.requires.op t.0 u.0 t.1 u.1 k.size l.size (omega arith)) c.at_base.result c.at_base.ensures;
     }
 
 pub read_top-first-requires : goal.read_top-first-requires

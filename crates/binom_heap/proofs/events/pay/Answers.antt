@@ -18,9 +18,9 @@ returns-then-job-eq0 g c =
     let t = top_of_root (g.H.Heap.view c.args.h.now).seen job.base.root.0 (build_root b job.base b.base_job.base c.requires.kind) in
     let k = build_top b job.base b.base_job.base c.requires.kind t.0 t.1 in
     record {
-      base = λ _. same_root _ _ _ c.same.result c.same.ensures;
+      base = λ _. same_root _ _ _ c.at_base.result c.at_base.ensures;
       built = built_same (Quiet_refl (g.H.Heap.view c.args.h.now)) (no_nodes b c.requires.stage (empty_nodes job c.requires.op c.if-job-eq0.true)) job.base.root job.base.size _
-          (empty_end (g.met.H.Heap.lawful c.args.h.now).world job t.0 t.1 k.size c.requires.kind (other_kind job b.base_job c.requires.kind) c.requires.op c.if-job-eq0.true) c.same.result c.same.ensures;
+          (empty_end (g.met.H.Heap.lawful c.args.h.now).world job t.0 t.1 k.size c.requires.kind (other_kind job b.base_job c.requires.kind) c.requires.op c.if-job-eq0.true) c.at_base.result c.at_base.ensures;
     }
 
 pub read_top-owing-requires : goal.read_top-owing-requires

@@ -24,7 +24,7 @@ returns-in_default g c =
     let d = c.in_default in
     let op = only_size c.args.job.now.op c.requires.op d.not-Popl d.not-Popr d.not-Pushl d.not-Pushr d.not-First d.not-Last in
     record {
-      built = size_built law (given law c.requires.kind c.requires.build) c.requires.kind op c.same.result (rw c.from.ensures at c.same.ensures);
-      base = λ _ _. same_root c.args.job.now _ _ c.same.result c.same.ensures;
-      ends = ap is_end c.same.ensures;
+      built = size_built law (given law c.requires.kind c.requires.build) c.requires.kind op c.at_base.result (rw c.from.ensures at c.at_base.ensures);
+      base = λ _ _. same_root c.args.job.now _ _ c.at_base.result c.at_base.ensures;
+      ends = ap is_end c.at_base.ensures;
     }

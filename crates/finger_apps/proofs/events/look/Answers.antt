@@ -12,9 +12,9 @@ end_item-requires-clause-of_level g c = (given (g.met.H.Heap.lawful c.args.h.now
 pub returns-in-Some-clause-built : goal.returns-in-Some-clause-built
 returns-in-Some-clause-built g c =
     let law = (g.met.H.Heap.lawful c.args.h.now).world in
-    look_built law (g.met.H.Heap.lawful c.end_item.new.h).world c.end_item.ensures.quiet (given law c.requires.kind c.requires.build) c.requires.kind c.args.side c.requires.op (Some c.in-Some.item) c.in-Some.ensures.item c.same.result c.same.ensures
+    look_built law (g.met.H.Heap.lawful c.end_item.new.h).world c.end_item.ensures.quiet (given law c.requires.kind c.requires.build) c.requires.kind c.args.side c.requires.op (Some c.in-Some.item) c.in-Some.ensures.item c.at_base.result c.at_base.ensures
 
 pub returns-in-None-clause-built : goal.returns-in-None-clause-built
 returns-in-None-clause-built g c =
     let law = (g.met.H.Heap.lawful c.args.h.now).world in
-    look_built law (g.met.H.Heap.lawful c.end_item.new.h).world c.end_item.ensures.quiet (given law c.requires.kind c.requires.build) c.requires.kind c.args.side c.requires.op None c.in-None.ensures.item c.same-in-None.result c.same-in-None.ensures
+    look_built law (g.met.H.Heap.lawful c.end_item.new.h).world c.end_item.ensures.quiet (given law c.requires.kind c.requires.build) c.requires.kind c.args.side c.requires.op None c.in-None.ensures.item c.at_base-in-None.result c.at_base-in-None.ensures

@@ -4,7 +4,7 @@ use Rattle.finger_apps.proofs.PopEnds.{none_built, popped_ask, popped_ended}
 use Rattle.finger_apps.proofs.events.pop.Goals as goal
 
 pub returns-then-job-eq0-clause-built : goal.returns-then-job-eq0-clause-built
-returns-then-job-eq0-clause-built g c = let law = (g.met.H.Heap.lawful c.args.h.now).world in none_built c.args.side c.requires.kind c.requires.op law (given law c.requires.kind c.requires.build) c.if-job-eq0.true c.same.result c.same.ensures
+returns-then-job-eq0-clause-built g c = let law = (g.met.H.Heap.lawful c.args.h.now).world in none_built c.args.side c.requires.kind c.requires.op law (given law c.requires.kind c.requires.build) c.if-job-eq0.true c.at_base.result c.at_base.ensures
 
 pub put_popped-root-requires-clause-tree : goal.put_popped-root-requires-clause-tree
 put_popped-root-requires-clause-tree g c = let b = (given (g.met.H.Heap.lawful c.args.h.now).world c.requires.kind c.requires.build).base in record { depth = 0; value = b.value; of_level = b.of_level }

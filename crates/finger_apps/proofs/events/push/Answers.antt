@@ -12,9 +12,9 @@ pub returns-then-job-eq-MOST_ITEMS : goal.returns-then-job-eq-MOST_ITEMS
 returns-then-job-eq-MOST_ITEMS g c =
     let law = (g.met.H.Heap.lawful c.args.h.now).world in
     record {
-      built = full_built law (given law c.requires.kind c.requires.build) c.requires.kind c.args.side c.requires.op c.if-job-eq-MOST_ITEMS.true c.same.result c.same.ensures;
-      base = λ _. same_root c.args.job.now _ _ c.same.result c.same.ensures;
-      ends = ap is_end c.same.ensures;
+      built = full_built law (given law c.requires.kind c.requires.build) c.requires.kind c.args.side c.requires.op c.if-job-eq-MOST_ITEMS.true c.at_base.result c.at_base.ensures;
+      base = λ _. same_root c.args.job.now _ _ c.at_base.result c.at_base.ensures;
+      ends = ap is_end c.at_base.ensures;
     }
 
 -- a push that makes something takes a place

@@ -18,9 +18,9 @@ use Rattle.lazy_stream.proofs.events.append.Goals.{After-read_front-ys, After-pu
 
 pub returns-then-size-gt-MOST_ITEMS : goal.returns-then-size-gt-MOST_ITEMS
 returns-then-size-gt-MOST_ITEMS g c = record {
-  built = long_built (g.met.H.Heap.lawful c.args.h.now).world c.requires.build c.requires.kind c.requires.op c.if-size-gt-MOST_ITEMS.true c.same.result c.same.ensures;
-  base = λ _. same_root _ _ _ c.same.result c.same.ensures;
-  ends = ap is_end c.same.ensures;
+  built = long_built (g.met.H.Heap.lawful c.args.h.now).world c.requires.build c.requires.kind c.requires.op c.if-size-gt-MOST_ITEMS.true c.at_base.result c.at_base.ensures;
+  base = λ _. same_root _ _ _ c.at_base.result c.at_base.ensures;
+  ends = ap is_end c.at_base.ensures;
 }
 
 pub read_front-xs-requires : goal.read_front-xs-requires

@@ -15,9 +15,9 @@ use Rattle.lazy_stream.proofs.events.head.Goals.{After-read_front-front}
 
 pub returns-then-job-eq0 : goal.returns-then-job-eq0
 returns-then-job-eq0 g c = record {
-  built = none_built (g.met.H.Heap.lawful c.args.h.now).world c.requires.build c.requires.kind ops.Head c.requires.op refl c.if-job-eq0.true c.same.result c.same.ensures;
-  base = λ _. same_root _ _ _ c.same.result c.same.ensures;
-  ends = ap is_end c.same.ensures;
+  built = none_built (g.met.H.Heap.lawful c.args.h.now).world c.requires.build c.requires.kind ops.Head c.requires.op refl c.if-job-eq0.true c.at_base.result c.at_base.ensures;
+  base = λ _. same_root _ _ _ c.at_base.result c.at_base.ensures;
+  ends = ap is_end c.at_base.ensures;
 }
 
 pub read_front-front-requires : goal.read_front-front-requires
@@ -45,7 +45,7 @@ returns g c =
     let known = (found_first c.requires.build (grows_trans c.read_front-front.ensures.quiet.grows q.grows) c.read_front-front.result c.read_front-front.ensures.top.0 c.read_front-front.ensures.top.1 (ap (λ o. looks_at_first o c.args.job.now.base.size) c.requires.op ∙ lt-ltb 0 c.args.job.now.base.size (omega arith))).known in
     let h = item_cell law c.read_front-front.result.0 _ _ _ f.stream.items (value_up _ _ q.grows c.read_front-front.result.0 _ c.first_cell-cell.ensures.cell) in
     record {
-      built = head_built (g.met.H.Heap.lawful c.args.h.now).world c.requires.build c.requires.kind (Quiet_trans c.read_front-front.ensures.quiet q) law c.read_front-front.result f c.requires.op c.first_cell-cell.result.value c.first_cell-cell.result.rest h known c.same-2.result c.same-2.ensures;
-      base = λ _. same_root _ _ _ c.same-2.result c.same-2.ensures;
-      ends = ap is_end c.same-2.ensures;
+      built = head_built (g.met.H.Heap.lawful c.args.h.now).world c.requires.build c.requires.kind (Quiet_trans c.read_front-front.ensures.quiet q) law c.read_front-front.result f c.requires.op c.first_cell-cell.result.value c.first_cell-cell.result.rest h known c.at_base-2.result c.at_base-2.ensures;
+      base = λ _. same_root _ _ _ c.at_base-2.result c.at_base-2.ensures;
+      ends = ap is_end c.at_base-2.ensures;
     }

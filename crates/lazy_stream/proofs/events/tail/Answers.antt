@@ -19,9 +19,9 @@ use Rattle.lazy_stream.proofs.events.tail.Goals.{After-read_front-front, After-f
 
 pub returns-then-job-eq0 : goal.returns-then-job-eq0
 returns-then-job-eq0 g c = record {
-  built = none_built (g.met.H.Heap.lawful c.args.h.now).world c.requires.build c.requires.kind ops.Tail c.requires.op refl c.if-job-eq0.true c.same.result c.same.ensures;
-  base = λ _. same_root _ _ _ c.same.result c.same.ensures;
-  ends = ap is_end c.same.ensures;
+  built = none_built (g.met.H.Heap.lawful c.args.h.now).world c.requires.build c.requires.kind ops.Tail c.requires.op refl c.if-job-eq0.true c.at_base.result c.at_base.ensures;
+  base = λ _. same_root _ _ _ c.at_base.result c.at_base.ensures;
+  ends = ap is_end c.at_base.ensures;
 }
 
 pub read_front-front-requires : goal.read_front-front-requires

@@ -10,7 +10,7 @@ pub returns-in_default : goal.returns-in_default
 returns-in_default g c =
     let op = only_size c.args.job.now.op (ap (λ k. belongs k c.args.job.now.op) (sym c.requires.kind) ∙ c.requires.build.base_job.op) c.in_default.not-Snoc c.in_default.not-Tail c.in_default.not-Head in
     record {
-      built = size_built (g.met.H.Heap.lawful c.args.h.now).world c.requires.build c.requires.kind op c.same.result (rw c.from.ensures at c.same.ensures);
-      base = λ _. same_root _ _ _ c.same.result c.same.ensures;
-      ends = ap is_end c.same.ensures;
+      built = size_built (g.met.H.Heap.lawful c.args.h.now).world c.requires.build c.requires.kind op c.at_base.result (rw c.from.ensures at c.at_base.ensures);
+      base = λ _. same_root _ _ _ c.at_base.result c.at_base.ensures;
+      ends = ap is_end c.at_base.ensures;
     }

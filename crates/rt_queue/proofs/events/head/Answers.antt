@@ -22,9 +22,9 @@ top g c = build_later c.read_top-top.ensures.quiet.grows (g.met.H.Heap.lawful c.
 
 pub returns-then-top-eq0 : goal.returns-then-top-eq0
 returns-then-top-eq0 g c = record {
-  built = head_none c.read_top-top.ensures.quiet (g.met.H.Heap.lawful c.read_top-top.new.h).world (top g (goal.at.returns-then-top-eq0 g c).After-read_top-top) c.requires.kind c.requires.op c.if-top-eq0.true c.same.result c.same.ensures;
-  base = λ _. same_root _ _ _ c.same.result c.same.ensures;
-  ends = ap is_end c.same.ensures;
+  built = head_none c.read_top-top.ensures.quiet (g.met.H.Heap.lawful c.read_top-top.new.h).world (top g (goal.at.returns-then-top-eq0 g c).After-read_top-top) c.requires.kind c.requires.op c.if-top-eq0.true c.at_base.result c.at_base.ensures;
+  base = λ _. same_root _ _ _ c.at_base.result c.at_base.ensures;
+  ends = ap is_end c.at_base.ensures;
 }
 
 -- where an item is left, the front is looked at
@@ -45,7 +45,7 @@ returns g c =
     let h = item_cell law c.read_top-top.result.front.0 _ _ _ k.top.items.front_items (value_up _ _ c.first_cell-cell.ensures.quiet.grows c.read_top-top.result.front.0 _ c.first_cell-cell.ensures.cell) in
     let look = front g (goal.at.returns g c).After-read_top-top (omega arith) in
     record {
-      built = head_built (Quiet_trans c.read_top-top.ensures.quiet c.first_cell-cell.ensures.quiet) law k c.requires.kind c.requires.op c.first_cell-cell.result.value c.first_cell-cell.result.rest h (k.looked c.read_top-top.result.front look).known c.same-2.result c.same-2.ensures;
-      base = λ _. same_root _ _ _ c.same-2.result c.same-2.ensures;
-      ends = ap is_end c.same-2.ensures;
+      built = head_built (Quiet_trans c.read_top-top.ensures.quiet c.first_cell-cell.ensures.quiet) law k c.requires.kind c.requires.op c.first_cell-cell.result.value c.first_cell-cell.result.rest h (k.looked c.read_top-top.result.front look).known c.at_base-2.result c.at_base-2.ensures;
+      base = λ _. same_root _ _ _ c.at_base-2.result c.at_base-2.ensures;
+      ends = ap is_end c.at_base-2.ensures;
     }
