@@ -3,8 +3,10 @@
 #![tactic(auto)]
 
 pub mod concat;
+pub mod jobs;
 pub mod push;
 pub mod tail;
 pub mod work;
 
+pub use jobs::FingerJobs;
 pub use work::{build, prepare};

@@ -2,7 +2,7 @@
 ghost use Rattle.std.specs.Prelude.{◌≡◌, ◌+◌, ◌≤◌, [], true, false};
 ghost use Rattle.lazy_rec.specs.Named.{is_pending};
 ghost use Rattle.lazy_rec.specs.Meaning.{means};
-ghost use Rattle.lazy_rec.specs.declared.events.Op.TheVariants.{New};
+ghost use Rattle.lazy_rec.specs.declared.events.Op.TheVariants.{New, Delmin};
 ghost use Rattle.lazy_rec.specs.Due.{new_places};
 ghost use Rattle.heap_store.specs.World.{recs, holds};
 ghost use Rattle.heap_store.specs.Lawful.{is_root};
@@ -46,11 +46,13 @@ pub fn new_event<H: Heap>(h: &mut H, kind: Kind, run: &mut Run) -> Ref
     }
 }
 
-/// What a stage of an event needs, or how many places it takes. The cursor is handed on to its build.
+/// What a stage of an event needs, or how many places it takes. The cursor is handed on to its build: for a `delmin` of a heap alone
+/// does it move.
 pub fn prepare_event<H: Heap>(h: &mut H, job: &EventJob, cursor: &mut Cursor) -> Prep
     requires job { IsJob (H.view h.old).seen job.now }
     requires built { is_built job.now.base.kind job.now.op ≡ true }
     ensures quiet { Quiet (H.view h.old) (H.view h.new) }
+    ensures cursor_stays { (job.now.base.kind ≡ Kind.Heap → job.now.op ≡ Delmin → ⊥) → cursor.new ≡ cursor.old }
     ensures answer { EventPrepared is_any_work (IsReadyEvent cursor.new) (H.view h.new).seen job.now result }
 {
     match job.base.kind {

@@ -4,7 +4,6 @@
 pub mod built;
 pub mod events;
 pub mod jobs;
-pub mod work;
 
 pub use built::{is_built, is_kind_built};
 pub use events::{build_event, new_event, new_places, prepare_event};
