@@ -30,7 +30,7 @@ pub mod EventEnds
 pub mod RowLaws
 pub mod HistoryLaws
 pub mod PlainLists
-pub mod HeldLaws
+pub mod Walks
 pub mod SlotLaws
 pub mod PlainWorlds
 pub mod PlainSeen

@@ -1,10 +1,10 @@
 -- Lists of claims, free places and open names.
-use Rattle.std.proofs.Common.{◌≡◌, ◌≢◌, ℕ, zero, suc, ◌+◌, ◌-◌, ◌<◌, ◌≤◌, Bool, true, false, List, [], ◌∷◌, ◌++◌, length, reverse, replicate, Option, Some, None, refl, sym, ap, ◌∙◌, arith, subst, ⊎_elim, cond, eqb}
-use Rattle.std.specs.Prelude.{filter, count_by, slice_set, slice_index_or}
+use Rattle.std.proofs.Common.{◌≡◌, ◌≢◌, ℕ, zero, suc, ◌+◌, ◌-◌, ◌<◌, ◌≤◌, Bool, true, false, List, [], ◌∷◌, ◌++◌, length, replicate, Option, Some, None, refl, sym, ap, ◌∙◌, arith, subst, ⊎_elim, cond, eqb}
+use Rattle.std.specs.Prelude.{count_by, slice_set, slice_index_or}
 use Rattle.std.specs.List.{list_all}
 use Rattle.std.proofs.lemmas.Grind.{common_steps}
 use Rattle.std.proofs.lemmas.Bool.{cases_eq, cases_lt, true≢false, or_left, or_right, eq-eqb}
-use Rattle.std.proofs.lemmas.List.{get_or_append_left, get_or-append_right, get_or_past, get_or-replicate, set-append_left, length-append, length-replicate, length-set, replicate-append-replicate, append_assoc, reverse-append}
+use Rattle.std.proofs.lemmas.List.{get_or_append_left, get_or-append_right, get_or_past, get_or-replicate, set-append_left, length-append, length-replicate, length-set, replicate-append-replicate, append_assoc}
 use Rattle.heap_store.specs.declared.nodes.Node.{Node}
 use Rattle.heap_store.specs.declared.claims.HeldClaim.{HeldClaim}
 use Rattle.heap_store.specs.Hand.{contains, all_distinct, places_from, without, claim_places, without_claim}
@@ -37,13 +37,6 @@ distinct-without_claim s (c ∷ cs) h =
     let k = contains-without_absent s cs c.place.0 in
     grind (arith, common_steps, ih, h, k)
 
-pub length-without_claim : (s : ℕ) (cs : List HeldClaim) → all_distinct (claim_places cs) ≡ true → contains (claim_places cs) s ≡ true → length (without_claim s cs) + 1 ≡ length cs
-length-without_claim s [] d h = absurd (cc)
-length-without_claim s (c ∷ cs) d h =
-    let ih = length-without_claim s cs in
-    let k = without_claim-absent s cs in
-    grind (arith, common_steps, ih, d, h, k)
-
 pub all-without_claim : (test : HeldClaim → Bool) (s : ℕ) (cs : List HeldClaim) → list_all test cs ≡ true → list_all test (without_claim s cs) ≡ true
 all-without_claim test s [] h = refl
 all-without_claim test s (c ∷ cs) h = let ih = all-without_claim test s cs in grind (arith, common_steps, ih, h)
@@ -73,11 +66,11 @@ filled-more m n k xs l =
 pub length-filled : {X : Type 0} (m : X) (n : ℕ) (xs : List X) → length xs ≤ n → length (filled_up m n xs) ≡ n
 length-filled m n xs l = length-append xs (replicate (n - length xs) m) ∙ (rw (length-replicate (n - length xs) m) (omega arith))
 
-pub count-append : {X : Type 0} (t : X → Bool) (xs ys : List X) → count_by t (xs ++ ys) ≡ count_by t xs + count_by t ys
+count-append : {X : Type 0} (t : X → Bool) (xs ys : List X) → count_by t (xs ++ ys) ≡ count_by t xs + count_by t ys
 count-append t [] ys = omega arith
 count-append t (x ∷ xs) ys = let ih = count-append t xs ys in grind (arith, common_steps, ih)
 
-pub count-replicate : {X : Type 0} (t : X → Bool) (m : X) (k : ℕ) → t m ≡ false → count_by t (replicate k m) ≡ 0
+count-replicate : {X : Type 0} (t : X → Bool) (m : X) (k : ℕ) → t m ≡ false → count_by t (replicate k m) ≡ 0
 count-replicate t m zero h = refl
 count-replicate t m (suc k) h = let ih = count-replicate t m k h in grind (arith, common_steps, ih, h)
 
@@ -279,24 +272,3 @@ open-ended i (suc j) (before ∷ rows) words l h =
     let h' = subst (λ z. is_ended_row (row_of z words) ≡ true) e h in
     subst (λ z. open_names i (before ∷ slice_set rows j words) ≡ without z (z + 1) (open_names i (before ∷ rows))) (sym e)
     (cond-without (is_ended_row (row_of i before)) (suc i + j) i (open_names (suc i) rows) (open_names (suc i) (slice_set rows j words)) (omega arith) (open-ended (suc i) j rows words (omega arith) h'))
-
--- ---- the claims from the newest on
-
-pub filter-append : {X : Type 0} (t : X → Bool) (xs ys : List X) → filter t (xs ++ ys) ≡ filter t xs ++ filter t ys
-filter-append t [] ys = refl
-filter-append t (x ∷ xs) ys = let ih = filter-append t xs ys in grind (arith, common_steps, ih)
-
-pub reverse-cons : {X : Type 0} (x : X) (xs : List X) → reverse (x ∷ xs) ≡ reverse xs ++ x ∷ []
-reverse-cons x xs = reverse-append (x ∷ []) xs
-
-pub filter-reverse : {X : Type 0} (t : X → Bool) (xs : List X) → filter t (reverse xs) ≡ reverse (filter t xs)
-filter-reverse t [] = refl
-filter-reverse t (x ∷ xs) = ap (filter t) (reverse-cons x xs) ∙ (filter-append t (reverse xs) (x ∷ []) ∙ (rw (filter-reverse t xs) (by (t x))))
-  where
-    by : (b : Bool) → reverse (filter t xs) ++ cond b (x ∷ []) [] ≡ reverse (cond b (x ∷ filter t xs) (filter t xs))
-    by true = sym (reverse-cons x (filter t xs))
-    by false = append_nil (reverse (filter t xs))
-      where
-        append_nil : {Y : Type 0} (ys : List Y) → ys ++ [] ≡ ys
-        append_nil [] = refl
-        append_nil (y ∷ ys) = ap (λ z. y ∷ z) (append_nil ys)

@@ -156,7 +156,6 @@ module _ (capacity row_capacity : ℕ) where
     once = refl;
     funded = opened_funded;
     budget = opened_budget;
-    many = refl;
     fits = omega arith;
     small = small;
     rows_fit = omega arith;

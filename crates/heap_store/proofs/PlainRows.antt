@@ -98,7 +98,6 @@ module _ (capacity row_capacity : ℕ) (nodes : List (Option Node)) (claims : Li
           once = h.once;
           funded = subst IsFunded (sym world-stored) (stored_funded w k i v in_world inside may.once h.seen.legal may.legal stay h.funded);
           budget = subst (λ z. IsInBudget (alone_with z (held_things claims (free_places 0 nodes) [] []))) (sym world-stored) (stored_in_budget w k i v in_world inside may.once h.seen.legal may.legal stay (held_things claims (free_places 0 nodes) [] []) h.budget);
-          many = h.many;
           fits = h.fits;
           small = h.small;
           rows_fit = rw length-set h.rows_fit;
@@ -240,7 +239,6 @@ module _ (capacity row_capacity : ℕ) (nodes : List (Option Node)) (claims : Li
       once = h.once;
       funded = subst IsFunded (sym world-named) h.funded;
       budget = subst (λ z. IsInBudget (alone_with z (held_things claims (free_places 0 nodes) [] []))) (sym world-named) h.budget;
-      many = h.many;
       fits = h.fits;
       small = h.small;
       rows_fit = omega (arith, length-named, room);

@@ -4,7 +4,7 @@ use Rattle.std.specs.Prelude.{count_by, slice_set, slice_index_or, option_map}
 use Rattle.std.specs.List.{list_all}
 use Rattle.std.proofs.lemmas.Bool.{and_parts, and_from, or_right, lt-ltb, ltb-true}
 use Rattle.std.proofs.lemmas.List.{length-set, length-append, length-replicate}
-use Rattle.std.proofs.lemmas.List.Sums.{sum_by-set, count_by-le-length}
+use Rattle.std.proofs.lemmas.List.Sums.{sum_by-set}
 use Rattle.lazy_rec.specs.declared.records.Rec.{Rec}
 use Rattle.lazy_rec.specs.declared.records.Rec.TheVariants as recs_of
 use Rattle.lazy_rec.specs.declared.places.Ref.{Ref}
@@ -33,7 +33,7 @@ use Rattle.heap_store.proofs.PlainBudget.{balanced_is, affordable_own}
 use Rattle.heap_store.proofs.ShowLaws.{one_value, put_grows, show_adds, state_grows, state-same, done-same}
 use Rattle.heap_store.proofs.LawfulLaws.{lawful_state}
 use Rattle.heap_store.proofs.Steps.{places-mark}
-use Rattle.heap_store.proofs.PlainLists.{count-append, count-replicate, filled-more, free-append, free-replicate, free-filled, free-same, length-without_claim, distinct-without_claim, all-without_claim}
+use Rattle.heap_store.proofs.PlainLists.{filled-more, free-append, free-replicate, free-filled, free-same, distinct-without_claim, all-without_claim}
 use Rattle.heap_store.proofs.PlainWorlds.{node-drawn, drawn_there, show-drawn, inside_world, rec_node, published_rec, free_unpublished, fixed_drawn, lawful_hand, plain_balanced}
 use Rattle.heap_store.proofs.PlainSeen.{put_seen, won_seen, released_seen, unforced_no_next, unbuilt_no_next, claimed_pending}
 
@@ -170,15 +170,8 @@ marked-newest b (c ∷ cs) h = and_from _ _ (by (c.passed || b)) (and_parts (is_
     by true = refl
     by false = refl
 
-length-mark : (b : Bool) (cs : List HeldClaim) → length (mark_newest b cs) ≡ length cs
-length-mark b [] = refl
-length-mark b (c ∷ cs) = refl
-
 pub distinct-cons : (x : ℕ) (xs : List ℕ) → contains xs x ≡ false → all_distinct xs ≡ true → all_distinct (x ∷ xs) ≡ true
 distinct-cons x xs m d = and_from _ _ (ap not m) d
-
-count-more : (nodes : List (Option Node)) (k : ℕ) → count_by is_claimed_node (nodes ++ replicate k None) ≡ count_by is_claimed_node nodes
-count-more nodes k = count-append is_claimed_node nodes (replicate k None) ∙ (rw (count-replicate is_claimed_node None k refl) (omega arith))
 
 -- states that a word can show
 
@@ -241,15 +234,12 @@ module _ (capacity row_capacity : ℕ) (nodes : List (Option Node)) (claims : Li
       let inside = inside_world capacity row_capacity nodes rows p f.0 h.fits in
       let hand = lawful_hand capacity row_capacity nodes claims rows h open_rows in
       let new : IsSeenWell (show w p r (Unforced 0)) (mark_newest (is_later p r) claims) = put_seen w p r inside f.1 h.seen.lawful now_hand hand h.seen fits.laws fits.origin fits.follows in
-      let none : slice_index_or nodes p None ≡ None = sym (node-drawn capacity row_capacity nodes rows p f.0) ∙ f.1 in
-      let many = count-set is_claimed_node nodes p None (Some (record { rec = r; state = Unforced 0 })) f.0 none in
       record {
         seen = subst (λ z. IsSeenWell z (mark_newest (is_later p r) claims)) (sym (show-drawn capacity row_capacity nodes rows p r (Unforced 0) f.0)) new;
         funded = subst IsFunded (sym (show-drawn capacity row_capacity nodes rows p r (Unforced 0) f.0)) (put_funded w p r inside f.1 h.seen.lawful h.funded (put_names w p r inside f.1 h.seen.lawful fits.laws.names) fits.settled);
         budget = affordable_own (show w p r (Unforced 0)) _ (hand_put (recs w) now_hand p r (gain_at now_view.seen p r)) (free_places 0 (slice_set nodes p (Some (record { rec = r; state = Unforced 0 })))) (show-drawn capacity row_capacity nodes rows p r (Unforced 0) f.0) (free-put p r m) (put_balance p r m fits);
         marked = marked-newest (is_later p r) claims h.marked;
         once = ap all_distinct (places-mark (is_later p r) claims) ∙ h.once;
-        many = length-mark (is_later p r) claims ∙ (h.many ∙ omega (arith, many));
         fits = rw length-set h.fits;
         small = h.small;
         rows_fit = h.rows_fit;
@@ -271,12 +261,12 @@ module _ (capacity row_capacity : ℕ) (nodes : List (Option Node)) (claims : Li
       subst (λ t. Put v t p r) (sym same) (put v p r inside f.1)
 
   -- the same of what the code has at hand
-  module _ (p place : ℕ) (r : Rec) (n : Option Node) (later : Bool) (claims' : List HeldClaim) (at : place ≡ p) (node : n ≡ fresh_node r) (is : later ≡ is_later 0 r) (marked : claims' ≡ mark_newest later claims) (m : contains (free_places 0 nodes) p ≡ true) where
-    pub put_plain_at : Fits (plain_view nodes claims rows open_rows capacity row_capacity refused last) p r → IsPlain capacity row_capacity (slice_set nodes place n) claims' rows
-    put_plain_at fits = rw (at, node, marked, is ∙ sym (is_later-any p r)) (put_plain p r m fits)
+  module _ (p place : ℕ) (r : Rec) (n : Option Node) (at : place ≡ p) (node : n ≡ fresh_node r) (m : contains (free_places 0 nodes) p ≡ true) where
+    pub put_plain_at : Fits (plain_view nodes claims rows open_rows capacity row_capacity refused last) p r → IsPlain capacity row_capacity (slice_set nodes place n) (mark_newest (is_later 0 r) claims) rows
+    put_plain_at fits = rw (at, node) (subst (λ b. IsPlain capacity row_capacity (slice_set nodes p (fresh_node r)) (mark_newest b claims) rows) (is_later-any p r) (put_plain p r m fits))
 
-    pub put_view_at : Fits (plain_view nodes claims rows open_rows capacity row_capacity refused last) p r → Put (plain_view nodes claims rows open_rows capacity row_capacity refused last) (plain_view (slice_set nodes place n) claims' rows open_rows capacity row_capacity refused last) p r
-    put_view_at fits = rw (at, node, marked, is ∙ sym (is_later-any p r)) (put_view p r m fits)
+    pub put_view_at : Fits (plain_view nodes claims rows open_rows capacity row_capacity refused last) p r → Put (plain_view nodes claims rows open_rows capacity row_capacity refused last) (plain_view (slice_set nodes place n) (mark_newest (is_later 0 r) claims) rows open_rows capacity row_capacity refused last) p r
+    put_view_at fits = rw (at, node) (subst (λ b. Put (plain_view nodes claims rows open_rows capacity row_capacity refused last) (plain_view (slice_set nodes p (fresh_node r)) (mark_newest b claims) rows open_rows capacity row_capacity refused last) p r) (is_later-any p r) (put_view p r m fits))
 
   -- a place shows another state
   module _ (p : ℕ) (r : Rec) (old s : SuspState) (here : node_at (plain_world capacity row_capacity nodes rows) p ≡ Some (record { rec = r; state = old })) where
@@ -289,19 +279,15 @@ module _ (capacity row_capacity : ℕ) (nodes : List (Option Node)) (claims : Li
     in_list : slice_index_or nodes p None ≡ Some (record { rec = r; state = old })
     in_list = sym (node-drawn capacity row_capacity nodes rows p drawn) ∙ here
 
-    many_after : count_by is_claimed_node (slice_set nodes p (Some (record { rec = r; state = s }))) + cond (is_claimed old) 1 0 ≡ count_by is_claimed_node nodes + cond (is_claimed s) 1 0
-    many_after = count-set is_claimed_node nodes p (Some (record { rec = r; state = old })) (Some (record { rec = r; state = s })) drawn in_list
-
-    pub state_plain : (claims' : List HeldClaim) → IsSeenWell (show (plain_world capacity row_capacity nodes rows) p r s) claims' → list_all is_marked_well claims' ≡ true → all_distinct (claim_places claims') ≡ true → length claims' + cond (is_claimed old) 1 0 ≡ length claims + cond (is_claimed s) 1 0 → IsFunded (show (plain_world capacity row_capacity nodes rows) p r s)
+    pub state_plain : (claims' : List HeldClaim) → IsSeenWell (show (plain_world capacity row_capacity nodes rows) p r s) claims' → list_all is_marked_well claims' ≡ true → all_distinct (claim_places claims') ≡ true → IsFunded (show (plain_world capacity row_capacity nodes rows) p r s)
         → (hand : Hand) → claims' ≡ hand.claims → free_places 0 nodes ≡ hand.reserved → IsBalanced (alone_with (show (plain_world capacity row_capacity nodes rows) p r s) hand) 0 → IsPlain capacity row_capacity (slice_set nodes p (Some (record { rec = r; state = s }))) claims' rows
-    state_plain claims' new marked once length_is funded hand same free balanced = record {
+    state_plain claims' new marked once funded hand same free balanced = record {
       seen = subst (λ z. IsSeenWell z claims') (sym (show-drawn capacity row_capacity nodes rows p r s drawn)) new;
       funded = subst IsFunded (sym (show-drawn capacity row_capacity nodes rows p r s drawn)) funded;
       budget = subst (λ cs. IsInBudget (alone_with (plain_world capacity row_capacity (slice_set nodes p (Some (record { rec = r; state = s }))) rows) (held_things cs (free_places 0 (slice_set nodes p (Some (record { rec = r; state = s })))) [] []))) (sym same)
           (affordable_own (show (plain_world capacity row_capacity nodes rows) p r s) _ hand (free_places 0 (slice_set nodes p (Some (record { rec = r; state = s })))) (show-drawn capacity row_capacity nodes rows p r s drawn) (free-same 0 p nodes (record { rec = r; state = old }) (record { rec = r; state = s }) in_list ∙ free) balanced);
       marked = marked;
       once = once;
-      many = omega (arith, many_after, length_is, h.many);
       fits = rw length-set h.fits;
       small = h.small;
       rows_fit = h.rows_fit;
@@ -311,14 +297,6 @@ module _ (capacity row_capacity : ℕ) (nodes : List (Option Node)) (claims : Li
     pub state_view : (claims' : List HeldClaim) → plain_view (slice_set nodes p (Some (record { rec = r; state = s }))) claims' rows open_rows capacity row_capacity refused last ≡ (let v = plain_view nodes claims rows open_rows capacity row_capacity refused last in record v { seen = show v.seen p r s; hand = with_budget (show v.seen p r s) (record v.hand { claims = claims' }) })
     state_view claims' = view-same capacity row_capacity refused last claims' open_rows _ (show (plain_world capacity row_capacity nodes rows) p r s) _ (free_places 0 nodes) _ (open_names 1 rows) _ (length nodes - fixed_places) _ (length rows)
         (show-drawn capacity row_capacity nodes rows p r s drawn) (free-same 0 p nodes (record { rec = r; state = old }) (record { rec = r; state = s }) in_list) refl (ap (λ z. z - fixed_places) (length-set nodes p (Some (record { rec = r; state = s })))) refl
-
-    pub one_more : is_claimed old ≡ false → is_claimed s ≡ true → length claims < length nodes
-    one_more a b =
-        let k = count_by-le-length is_claimed_node (slice_set nodes p (Some (record { rec = r; state = s }))) in
-        let k' : count_by is_claimed_node (slice_set nodes p (Some (record { rec = r; state = s }))) ≤ length nodes = rw length-set at k in
-        let x : cond (is_claimed old) 1 0 ≡ 0 = ap {B = ℕ} (λ z. cond z 1 0) a in
-        let y : cond (is_claimed s) 1 0 ≡ 1 = ap {B = ℕ} (λ z. cond z 1 0) b in
-        omega (arith, many_after, k', x, y, h.many)
 
   count_small : (p : ℕ) (r : Rec) (s : SuspState) → node_at (plain_world capacity row_capacity nodes rows) p ≡ Some (record { rec = r; state = s }) → given_up s < 65536
   count_small p r s here = state_small s (h.seen.lawful.states p s (ap (option_map (λ (n : Node). n.state)) here))
@@ -331,9 +309,6 @@ module _ (capacity row_capacity : ℕ) (nodes : List (Option Node)) (claims : Li
     unclaimed : contains (claim_places claims) s.0 ≡ false
     unclaimed = h.seen.held s.0 ∙ ap is_claimed_node here
 
-    pub room_left : length claims < length nodes
-    room_left = one_more s.0 r (Unforced g) (Claimed g) here refl refl
-
     pub won_plain : IsPlain capacity row_capacity (slice_set nodes s.0 (Some (record { rec = r; state = Claimed g }))) (fresh_claim s ∷ claims) rows
     won_plain =
         let w = plain_world capacity row_capacity nodes rows in
@@ -343,7 +318,7 @@ module _ (capacity row_capacity : ℕ) (nodes : List (Option Node)) (claims : Li
         let grows = state_grows w s.0 r (Claimed g) l (Unforced g) here refl (omega arith) in
         state_plain s.0 r (Unforced g) (Claimed g) here (fresh_claim s ∷ claims)
         (won_seen w s.0 r (Unforced g) (Claimed g) l here claims h.seen law grows s refl unclaimed refl none)
-        h.marked (distinct-cons s.0 (claim_places claims) unclaimed h.once) (omega arith)
+        h.marked (distinct-cons s.0 (claim_places claims) unclaimed h.once)
         (state_funded w s.0 r (Unforced g) (Claimed g) l here h.seen.lawful h.funded paid) (hand_won (recs w) now_hand s) refl refl won_balance
 
     pub won_view : IsWon (plain_view nodes claims rows open_rows capacity row_capacity refused last) (plain_view (slice_set nodes s.0 (Some (record { rec = r; state = Claimed g }))) (fresh_claim s ∷ claims) rows open_rows capacity row_capacity refused last) s
@@ -369,11 +344,9 @@ module _ (capacity row_capacity : ℕ) (nodes : List (Option Node)) (claims : Li
     released_plain st free hand same reserved balanced law grows =
         let w = plain_world capacity row_capacity nodes rows in
         let l = inside s r (Claimed g) st here in
-        let y : cond (is_claimed st) 1 0 ≡ 0 = ap {B = ℕ} (λ z. cond z 1 0) free in
-        let len = length-without_claim s claims h.once held_here in
         state_plain s r (Claimed g) st here (without_claim s claims)
         (released_seen w s r (Claimed g) st l here claims h.seen law grows free)
-        (all-without_claim is_marked_well s claims h.marked) (distinct-without_claim s claims h.once) (omega (arith, y, len))
+        (all-without_claim is_marked_well s claims h.marked) (distinct-without_claim s claims h.once)
         (state_funded w s r (Claimed g) st l here h.seen.lawful h.funded claimed_paid) hand same reserved balanced
 
     completed_balance : (place : Ref) (steps : ℕ) → IsBalanced (alone_with (show (plain_world capacity row_capacity nodes rows) s r (Done place steps g)) (hand_completed (recs (plain_world capacity row_capacity nodes rows)) (plain_hand (plain_world capacity row_capacity nodes rows) nodes claims rows open_rows) s)) 0
@@ -438,7 +411,6 @@ module _ (capacity row_capacity : ℕ) (nodes : List (Option Node)) (claims : Li
       budget = affordable_own now_world _ (hand_reserved now_hand (length nodes) k) (free_places 0 (nodes ++ replicate k None)) world_same free-reserved (reserved_balanced now_world h.seen.lawful now_hand (lawful_hand capacity row_capacity nodes claims rows h open_rows) h.seen.held balance (length nodes) k fits);
       marked = h.marked;
       once = h.once;
-      many = h.many ∙ sym (count-more nodes k);
       fits = omega (arith, length_after, room);
       small = h.small;
       rows_fit = h.rows_fit;

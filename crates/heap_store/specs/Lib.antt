@@ -32,5 +32,5 @@ pub mod Plain
 pub mod Counts
 pub mod Props
 pub mod Slots
-pub mod Held
+pub mod Notes
 pub mod Opened

@@ -1,6 +1,6 @@
 -- What the fields of the store of one thread mean. It takes its room when it is opened, and fills it as places and names are
 -- drawn: a place that no reserve has given yet shows nothing, and a row whose name isn't drawn shows zeros.
-use Rattle.std.specs.Prelude.{◌≡◌, ℕ, suc, ◌+◌, ◌-◌, ◌*◌, ◌<◌, ◌≤◌, ◌∷◌, [], ◌++◌, replicate, eqb, Bool, true, false, cond, not, Option, Some, None, List, length, count_by}
+use Rattle.std.specs.Prelude.{◌≡◌, ℕ, suc, ◌+◌, ◌-◌, ◌*◌, ◌<◌, ◌≤◌, ◌∷◌, [], ◌++◌, replicate, Bool, true, false, cond, Option, Some, None, List, length}
 use Rattle.std.specs.List.{list_all}
 use Rattle.lazy_rec.specs.declared.records.Rec.{Rec}
 use Rattle.lazy_rec.specs.declared.records.Rec.TheVariants.{Nil, LNil, TNil, CatNil, TEmpty}
@@ -13,7 +13,7 @@ use Rattle.heap_store.specs.declared.claims.HeldClaim.{HeldClaim}
 use Rattle.heap_store.specs.declared.claims.OpenRow.{OpenRow}
 use Rattle.heap_store.specs.declared.claims.Full.{Full}
 use Rattle.heap_store.specs.World.{World, is_claimed_at, fixed_places}
-use Rattle.heap_store.specs.Rows.{Row, row_of, row_at, words_at, word_at, word, is_ended, is_ended_at}
+use Rattle.heap_store.specs.Rows.{Row, row_of, row_at, words_at, word_at, is_ended, is_ended_at}
 use Rattle.heap_store.specs.Legal.{IsLegal}
 use Rattle.heap_store.specs.Lawful.{IsLawful}
 use Rattle.heap_store.specs.LookedAt.{HasRoots}
@@ -62,10 +62,6 @@ is_claimed_node o = is_some_and (λ (n : Node). is_claimed n.state) o
 -- the rows that are worked on after a word of the row of a name is stored
 abbrev pub rows_after_word : ℕ → ℕ → ℕ → List OpenRow → List OpenRow
 rows_after_word name i value rows = cond (begins_row i value) (rows ++ record { name = name; refused = false } ∷ []) (cond (ends_row i) (rows_after_end name rows) rows)
-
--- how many rows have a word 0
-abbrev pub begun_count : List (List ℕ) → ℕ
-begun_count rows = count_by (λ ws. not (eqb (word ws 0) 0)) rows
 
 -- what the drawn places and rows show, in a store of so many places and rows
 abbrev pub plain_world : ℕ → ℕ → List (Option Node) → List (List ℕ) → World
@@ -126,7 +122,6 @@ pub record IsPlain (capacity row_capacity : ℕ) (nodes : List (Option Node)) (c
   -- no more is discharged and given than the dues and the steps allow, so nothing is lost in the hand's numbers
   pub funded : IsFunded (plain_world capacity row_capacity nodes rows)
   pub budget : IsInBudget (alone_with (plain_world capacity row_capacity nodes rows) (held_things claims (free_places 0 nodes) [] []))
-  pub many : length claims ≡ count_by is_claimed_node nodes
   pub fits : length nodes ≤ fixed_places + capacity
   pub small : capacity ≤ MOST_NODES
   pub rows_fit : length rows ≤ row_capacity

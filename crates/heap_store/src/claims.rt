@@ -4,7 +4,7 @@ use lazy_rec::Ref;
 use thiserror::Error;
 
 /// A claim in hand. `built` says that its attempt has published a place, `passed` that it has published the next
-/// suspension of its family.
+/// suspension of its family. Only contracts speak of one, as of an open row: no store keeps either where it runs.
 #[derive(Clone, Copy, Debug, PartialEq, Eq)]
 pub struct HeldClaim {
     pub place: Ref,

@@ -1,19 +1,17 @@
 //! The store of one thread, over vectors.
-ghost use Rattle.std.specs.Prelude.{◌≡◌, ℕ, ◌+◌, ◌<◌, ◌≤◌, [], ◌∷◌, ◌++◌, true, map, slice_index, vec_len, vec_capacity};
+ghost use Rattle.std.specs.Prelude.{◌≡◌, ℕ, ◌+◌, ◌<◌, ◌≤◌, [], slice_index, vec_capacity};
 ghost use Rattle.lazy_rec.specs.declared.limits.TheConstants.{MOST_EVENTS, MOST_NODES};
 ghost use Rattle.heap_store.specs.World.{fixed_places};
-ghost use Rattle.heap_store.specs.Hand.{is_later, rows_after_end};
-ghost use Rattle.heap_store.specs.Plain.{IsPlain, plain_view, five_records, rows_after_word, begun_count};
+ghost use Rattle.heap_store.specs.Plain.{IsPlain, plain_view, five_records};
 ghost use Rattle.heap_store.specs.Counts.{AreCounted};
 ghost use Rattle.heap_store.specs.Props.{IsPlain-prop, AreCounted-prop, IsLawfulView-prop};
 ghost use Rattle.heap_store.specs.View.{IsLawfulView};
-ghost use Rattle.heap_store.specs.RowCalls.{begins_row};
 
-use crate::claims::{Claim, Full, NamesFull, OpenRow};
+use crate::claims::{Claim, Full, NamesFull};
 use crate::counts::Counts;
 use crate::heap::{Claims, Heap, Rows};
-use crate::held::HeldClaims;
 use crate::nodes::Node;
+use crate::notes::{Note, Notes};
 use crate::run::Run;
 use crate::slots::DrawnPlaces;
 use lazy_rec::{NoMemory, Rec, Ref, SuspState};
@@ -33,22 +31,18 @@ struct Work {
 #[derive(Drop)]
 pub struct PlainHeap {
     nodes: DrawnPlaces,
-    claims: HeldClaims,
+    notes: Notes,
     rows: Vec<[u64; 8]>,
-    open_rows: Vec<OpenRow>,
     capacity: u32,
     row_capacity: u32,
     refused: u64,
     last: Full,
     work: Work,
     ghost node_room: { nodes.room ≡ fixed_places + capacity },
-    ghost claim_room: { fixed_places + capacity ≤ claims.room },
     ghost row_room: { row_capacity ≤ vec_capacity rows },
-    ghost open_room: { row_capacity ≤ vec_capacity open_rows },
-    ghost crowd: { vec_len open_rows ≤ begun_count rows.items },
-    ghost plain: { IsPlain capacity row_capacity nodes.shown claims.held rows.items } by { IsPlain-prop capacity row_capacity nodes.shown claims.held rows.items },
+    ghost plain: { IsPlain capacity row_capacity nodes.shown notes.claims rows.items } by { IsPlain-prop capacity row_capacity nodes.shown notes.claims rows.items },
     ghost counted: { AreCounted nodes.shown work } by { AreCounted-prop nodes.shown work },
-    ghost law: { IsLawfulView (plain_view nodes.shown claims.held rows.items open_rows.items capacity row_capacity refused last) } by { IsLawfulView-prop (plain_view nodes.shown claims.held rows.items open_rows.items capacity row_capacity refused last) },
+    ghost law: { IsLawfulView (plain_view nodes.shown notes.claims rows.items notes.open_rows capacity row_capacity refused last) } by { IsLawfulView-prop (plain_view nodes.shown notes.claims rows.items notes.open_rows capacity row_capacity refused last) },
 }
 
 impl PlainHeap {
@@ -64,20 +58,13 @@ impl PlainHeap {
         let Ok(places) = DrawnPlaces::with_room(alloc, nodes + 5) else {
             return Err(NoMemory)
         };
-        let Ok(claims) = HeldClaims::with_room(alloc, nodes as usize + 5) else {
-            return Err(NoMemory)
-        };
         let Ok(row_room) = Vec::with_capacity(alloc, rows as usize) else {
-            return Err(NoMemory)
-        };
-        let Ok(open_rows) = Vec::with_capacity(alloc, rows as usize) else {
             return Err(NoMemory)
         };
         Ok(PlainHeap {
             nodes: with_fixed_records(places),
-            claims,
+            notes: Notes::new(),
             rows: row_room,
-            open_rows,
             capacity: nodes,
             row_capacity: rows,
             refused: 0,
@@ -154,35 +141,6 @@ fn with_fixed_records(places: DrawnPlaces) -> DrawnPlaces
     places
 }
 
-/// Puts a value behind the others, for which there is room.
-#[inline(always)]
-fn add<T: Drop>(values: &mut Vec<T>, value: T)
-    requires { vec_len values.old < vec_capacity values.old }
-    ensures items { values.new.items ≡ values.old.items ++ value ∷ [] }
-    ensures room { vec_capacity values.old ≤ vec_capacity values.new }
-{
-    values.push_reserved(value);
-}
-
-/// Whether a record is a later suspension of a family, and not the first one.
-#[inline(always)]
-fn is_later(rec: &Rec) -> bool
-    ensures { result ≡ is_later 0 rec.now }
-{
-    match *rec {
-        Rec::Append { off, .. } => off > 0,
-        Rec::BankRot { off, .. } => off > 0,
-        Rec::RtRot { off, .. } => off > 0,
-        Rec::LinkAll { off, .. } => off > 0,
-        Rec::PushL { off, .. } => off > 0,
-        Rec::PushR { off, .. } => off > 0,
-        Rec::DeepL { off, .. } => off > 0,
-        Rec::DeepR { off, .. } => off > 0,
-        Rec::Concat { off, .. } => off > 0,
-        _ => false,
-    }
-}
-
 impl Heap for PlainHeap {
     ghost use Rattle.heap_store.specs.Opened.{view_of};
 
@@ -208,7 +166,7 @@ impl Heap for PlainHeap {
             };
             self.refused = self.refused.saturating_add(1);
             self.last = full;
-            note_refusal(&mut self.open_rows);
+            self.notes = self.notes.with(&Note::Refused);
             return Err(full);
         }
         self.nodes.draw(k);
@@ -219,26 +177,11 @@ impl Heap for PlainHeap {
     fn put(&mut self, run: &mut Run, rec: Rec) -> Ref {
         let place = run.step();
         self.nodes.publish(place, rec);
-        self.claims.mark(is_later(&rec));
+        self.notes = self.notes.with(&Note::Put(&rec));
         place
     }
 
     ghost lawful = { λ h. h.law };
-}
-
-/// A refusal is noted of each row that is worked on.
-#[cold]
-#[inline(never)]
-fn note_refusal(rows: &mut Vec<OpenRow>)
-    ensures items { rows.new.items ≡ map (λ (o : OpenRow). record o { refused = true }) rows.old.items }
-    ensures room { vec_capacity rows.new ≡ vec_capacity rows.old }
-{
-    for i in 0..rows.len() {
-        rows[i] = OpenRow {
-            name: rows[i].name,
-            refused: true,
-        };
-    }
 }
 
 impl Claims for PlainHeap {
@@ -247,7 +190,7 @@ impl Claims for PlainHeap {
         match self.nodes.state(s) {
             SuspState::Unforced { given_up } => {
                 self.nodes.set_state(s, SuspState::Claimed { given_up });
-                self.claims.add(s);
+                self.notes = self.notes.with(&Note::Won(s));
                 Claim::Won
             }
             SuspState::Claimed { .. } => Claim::Busy,
@@ -269,7 +212,7 @@ impl Claims for PlainHeap {
         );
         self.work.forced += 1;
         self.work.steps += u64::from(steps);
-        self.claims.release(s);
+        self.notes = self.notes.with(&Note::Left(s));
     }
 
     fn give_up(&mut self, s: Ref) {
@@ -280,7 +223,7 @@ impl Claims for PlainHeap {
         self.nodes
             .set_state(s, SuspState::Unforced { given_up: raised });
         self.work.given_up += u64::from(raised - given_up);
-        self.claims.release(s);
+        self.notes = self.notes.with(&Note::Left(s));
     }
 }
 
@@ -292,39 +235,6 @@ fn word_of(row: &[u64; 8], word: u32) -> u64
     row[word as usize]
 }
 
-/// The row of this name is ended: it is none of those that are worked on. Mostly it is the only one.
-#[inline(always)]
-fn close(rows: &mut Vec<OpenRow>, name: u32)
-    ensures items { rows.new.items ≡ rows_after_end name rows.old.items }
-    ensures room { vec_capacity rows.new ≡ vec_capacity rows.old }
-{
-    if rows.len() == 1 && rows[0].name == name {
-        rows.clear();
-    } else {
-        rows.retain(|o| o.name != name);
-    }
-}
-
-/// A word of the row of this name is stored: the row begins, or ends.
-#[inline(always)]
-fn note_word(rows: &mut Vec<OpenRow>, name: u32, word: u32, value: u64)
-    requires room { begins_row word value ≡ true → vec_len rows.old < vec_capacity rows.old }
-    ensures items { rows.new.items ≡ rows_after_word name word value rows.old.items }
-    ensures room { vec_capacity rows.old ≤ vec_capacity rows.new }
-{
-    match word {
-        0 if value % 2 == 1 => add(
-            rows,
-            OpenRow {
-                name,
-                refused: false,
-            },
-        ),
-        5 => close(rows, name),
-        _ => {}
-    }
-}
-
 impl Rows for PlainHeap {
     #[inline]
     fn draw_name(&mut self) -> Result<u32, NamesFull> {
@@ -334,14 +244,14 @@ impl Rows for PlainHeap {
                 drawn: drawn as u64,
             });
         }
-        add(&mut self.rows, [0; 8]);
+        self.rows.push_reserved([0; 8]);
         Ok(drawn + 1)
     }
 
     #[inline]
     fn store_row(&mut self, name: u32, word: u32, value: u64) {
         self.rows[name as usize - 1][word as usize] = value;
-        note_word(&mut self.open_rows, name, word, value);
+        self.notes = self.notes.with(&Note::Stored { name, word, value });
     }
 
     #[inline]

@@ -5,10 +5,10 @@ use Rattle.heap_store.proofs.PlainCounts.{opened_counted}
 use Rattle.heap_store.proofs.PlainOpen.{opened_plain}
 use Rattle.heap_store.proofs.PlainWorlds.{plain_lawful}
 use Rattle.heap_store.proofs.plain.PlainHeap.open.Goals as goal
-use Rattle.heap_store.proofs.plain.PlainHeap.open.Goals.{After-with_fixed_records}
+use Rattle.heap_store.proofs.plain.PlainHeap.open.Goals.{After-new}
 
-now_plain : (c : After-with_fixed_records) → IsPlain c.args.nodes c.args.rows c.with_fixed_records.result.shown c.in-Ok-with_room.claims.held c.in-Ok-with_capacity.row_room.items
-now_plain c = rw (c.with_fixed_records.ensures, c.in-Ok-with_room.ensures.0, c.in-Ok-with_capacity.ensures.items) (opened_plain c.args.nodes c.args.rows c.requires.nodes c.requires.rows)
+now_plain : (c : After-new) → IsPlain c.args.nodes c.args.rows c.with_fixed_records.result.shown c.new.result.claims c.in-Ok-with_capacity.row_room.items
+now_plain c = rw (c.with_fixed_records.ensures, c.new.ensures, c.in-Ok-with_capacity.ensures.items) (opened_plain c.args.nodes c.args.rows c.requires.nodes c.requires.rows)
 
 pub with_fixed_records-requires : goal.with_fixed_records-requires
 with_fixed_records-requires c = record {
@@ -26,7 +26,7 @@ pub invariant_of-result-clause-counted : goal.invariant_of-result-clause-counted
 invariant_of-result-clause-counted c = rw c.with_fixed_records.ensures opened_counted
 
 pub invariant_of-result-clause-law : goal.invariant_of-result-clause-law
-invariant_of-result-clause-law c = plain_lawful c.args.nodes c.args.rows _ _ _ (now_plain c) _ _ _ (rw c.in-Ok-with_capacity-2.ensures.items refl) (λ some. absurd (omega (arith, some)))
+invariant_of-result-clause-law c = plain_lawful c.args.nodes c.args.rows _ _ _ (now_plain c) _ _ _ (rw c.new.ensures refl) (λ some. absurd (omega (arith, some)))
 
 pub returns : goal.returns
-returns c = rw (c.with_fixed_records.ensures, c.in-Ok-with_room.ensures.0, c.in-Ok-with_capacity.ensures.items, c.in-Ok-with_capacity-2.ensures.items) refl
+returns c = rw (c.with_fixed_records.ensures, c.new.ensures, c.in-Ok-with_capacity.ensures.items) refl

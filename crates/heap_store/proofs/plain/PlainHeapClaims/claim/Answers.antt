@@ -1,4 +1,4 @@
-use Rattle.std.proofs.Common.{arith, ◌≡◌, Option, Some, ap, ◌∙◌, true}
+use Rattle.std.proofs.Common.{◌≡◌, ◌∷◌, Option, Some, ap, ◌∙◌, true}
 use Rattle.std.specs.Prelude.{option_and_then}
 use Rattle.lazy_rec.specs.declared.records.Rec.{Rec}
 use Rattle.lazy_rec.specs.declared.states.SuspState.{SuspState}
@@ -7,6 +7,7 @@ use Rattle.lazy_rec.specs.Named.{is_pending}
 use Rattle.lazy_rec.specs.States.{kept}
 use Rattle.heap_store.specs.declared.nodes.Node.{Node}
 use Rattle.heap_store.specs.World.{node_at}
+use Rattle.heap_store.specs.Hand.{fresh_claim}
 use Rattle.heap_store.specs.Budget.{is_funded}
 use Rattle.heap_store.specs.Plain.{IsPlain, plain_world, is_claimed_node}
 use Rattle.heap_store.proofs.Steps.{Quiet_refl}
@@ -14,9 +15,9 @@ use Rattle.heap_store.specs.Slots.{at_place}
 use Rattle.heap_store.proofs.PlainReads.{with_state, there, within_read, shown_read, state_node, passed_at}
 use Rattle.heap_store.proofs.PlainWorlds.{plain_lawful}
 use Rattle.heap_store.proofs.PlainCounts.{won_counted}
-use Rattle.heap_store.proofs.PlainSteps.{won_plain, won_view, room_left}
+use Rattle.heap_store.proofs.PlainSteps.{won_plain, won_view}
 use Rattle.heap_store.proofs.plain.PlainHeapClaims.claim.Goals as goal
-use Rattle.heap_store.proofs.plain.PlainHeapClaims.claim.Goals.{In-Unforced, After-add}
+use Rattle.heap_store.proofs.plain.PlainHeapClaims.claim.Goals.{In-Unforced, After-with-self}
 
 -- the node whose state was read
 node : (c : In-Unforced) → (r : Rec) × (at_place c.args.self.now.nodes.shown c.args.s.0 ≡ Some (record { rec = r; state = Unforced c.in-Unforced.given_up }))
@@ -34,25 +35,18 @@ paid c =
     let w = plain_world h.capacity h.row_capacity h.nodes.shown h.rows.items in
     passed_at w c.args.s.0 (is_funded w c.args.s.0) (record { rec = (node c).0; state = Unforced c.in-Unforced.given_up }) (here c) c.requires.funded
 
-now_plain : (c : After-add) → IsPlain c.args.self.now.capacity c.args.self.now.row_capacity c.set_state.new.self.shown c.add.new.self.held c.args.self.now.rows.items
+now_plain : (c : After-with-self) → IsPlain c.args.self.now.capacity c.args.self.now.row_capacity c.set_state.new.self.shown (fresh_claim c.args.s ∷ c.args.self.now.notes.claims) c.args.self.now.rows.items
 now_plain c =
     let h = c.args.self.now in
     let i = (goal.at.invariant_of-self-clause-plain c).In-Unforced in
     let set : c.set_state.new.self ≡ with_state h.nodes c.args.s.0 (node i).0 (Claimed c.in-Unforced.given_up) = c.set_state.ensures (record { rec = (node i).0; state = Unforced c.in-Unforced.given_up }) (node i).1 in
-    rw (c.add.ensures, set) (won_plain h.capacity h.row_capacity h.nodes.shown h.claims.held h.rows.items h.plain h.open_rows.items h.refused h.last c.args.s (node i).0 c.in-Unforced.given_up (here i) (pending i) (paid i))
+    rw set (won_plain h.capacity h.row_capacity h.nodes.shown h.notes.claims h.rows.items h.plain h.notes.open_rows h.refused h.last c.args.s (node i).0 c.in-Unforced.given_up (here i) (pending i) (paid i))
 
 pub state-requires : goal.state-requires
 state-requires c = let h = c.args.self.now in shown_read h.capacity h.row_capacity h.nodes.shown h.rows.items c.args.s.0 is_pending c.requires.pending
 
 pub set_state-requires-clause-there : goal.set_state-requires-clause-there
 set_state-requires-clause-there c = let h = c.args.self.now in shown_read h.capacity h.row_capacity h.nodes.shown h.rows.items c.args.s.0 is_pending c.requires.pending
-
-pub add-requires : goal.add-requires
-add-requires c =
-    let h = c.args.self.now in
-    let i = (goal.at.add-requires c).In-Unforced in
-    let l = room_left h.capacity h.row_capacity h.nodes.shown h.claims.held h.rows.items h.plain h.open_rows.items h.refused h.last c.args.s (node i).0 c.in-Unforced.given_up (here i) (pending i) (paid i) in
-    omega (arith, l, h.plain.fits, h.claim_room)
 
 pub invariant_of-self-clause-node_room : goal.invariant_of-self-clause-node_room
 invariant_of-self-clause-node_room c =
@@ -61,11 +55,8 @@ invariant_of-self-clause-node_room c =
     let set : c.set_state.new.self ≡ with_state h.nodes c.args.s.0 (node i).0 (Claimed c.in-Unforced.given_up) = c.set_state.ensures (record { rec = (node i).0; state = Unforced c.in-Unforced.given_up }) (node i).1 in
     rw set h.node_room
 
-pub invariant_of-self-clause-claim_room : goal.invariant_of-self-clause-claim_room
-invariant_of-self-clause-claim_room c = rw c.add.ensures c.args.self.now.claim_room
-
 pub invariant_of-self-clause-plain : goal.invariant_of-self-clause-plain
-invariant_of-self-clause-plain c = now_plain c
+invariant_of-self-clause-plain c = rw c.with-self.ensures (now_plain c)
 
 pub invariant_of-self-clause-counted : goal.invariant_of-self-clause-counted
 invariant_of-self-clause-counted c =
@@ -76,14 +67,14 @@ invariant_of-self-clause-counted c =
     rw set (won_counted h.nodes.shown h.work c.args.s.0 within h.counted (node i).0 c.in-Unforced.given_up (node i).1)
 
 pub invariant_of-self-clause-law : goal.invariant_of-self-clause-law
-invariant_of-self-clause-law c = let h = c.args.self.now in plain_lawful h.capacity h.row_capacity _ _ h.rows.items (now_plain c) h.open_rows.items h.refused h.last h.law.open_in h.law.refused
+invariant_of-self-clause-law c = let h = c.args.self.now in rw c.with-self.ensures (plain_lawful h.capacity h.row_capacity _ _ h.rows.items (now_plain c) h.notes.open_rows h.refused h.last h.law.open_in h.law.refused)
 
 pub returns-in-Unforced : goal.returns-in-Unforced
 returns-in-Unforced c =
     let h = c.args.self.now in
     let i = (goal.at.returns-in-Unforced c).In-Unforced in
     let set : c.set_state.new.self ≡ with_state h.nodes c.args.s.0 (node i).0 (Claimed c.in-Unforced.given_up) = c.set_state.ensures (record { rec = (node i).0; state = Unforced c.in-Unforced.given_up }) (node i).1 in
-    rw (c.add.ensures, set) (won_view h.capacity h.row_capacity h.nodes.shown h.claims.held h.rows.items h.plain h.open_rows.items h.refused h.last c.args.s (node i).0 c.in-Unforced.given_up (here i) (pending i) (paid i))
+    rw (c.with-self.ensures, set) (won_view h.capacity h.row_capacity h.nodes.shown h.notes.claims h.rows.items h.plain h.notes.open_rows h.refused h.last c.args.s (node i).0 c.in-Unforced.given_up (here i) (pending i) (paid i))
 
 pub returns-in-Claimed : goal.returns-in-Claimed
 returns-in-Claimed c =
