@@ -1,6 +1,7 @@
 -- How large the places of an event and the sums over a script can be.
-use Rattle.std.proofs.Common.{◌≡◌, ℕ, zero, suc, ◌+◌, ◌*◌, ◌≤◌, ◌<◌, ◌^◌, arith, Option, Some, None, List, sym, ap, ◌∙◌}
+use Rattle.std.proofs.Common.{◌≡◌, ℕ, zero, suc, ◌+◌, ◌-◌, ◌*◌, ◌≤◌, ◌<◌, ◌^◌, min, arith, Option, Some, None, List, length, ⊎_elim, sym, ap, subst, ◌∙◌}
 use Rattle.std.specs.Prelude.{slice_get}
+use Rattle.std.proofs.lemmas.Bool.{cases_lt}
 use Rattle.lazy_rec.specs.declared.events.Kind.{Kind}
 use Rattle.lazy_rec.specs.declared.events.Kind.TheVariants as kinds
 use Rattle.lazy_rec.specs.declared.events.Op.{Op}
@@ -12,7 +13,7 @@ use Rattle.lazy_rec.specs.Due.{due, direct, new_places}
 use Rattle.lazy_rec.specs.Plain.{most_items}
 use Rattle.lazy_rec.specs.History.{Events, event_of, kind_of}
 use Rattle.dues.specs.Sizes.{bound_of}
-use Rattle.dues.specs.Rooms.{places, places_of, sum_to, both_bounds}
+use Rattle.dues.specs.Rooms.{places, places_of, sum_to, room, both_bounds}
 use Rattle.dues.proofs.BitsFit.{bits_fit, square_fits}
 use Rattle.dues.proofs.SizeLaws.{bounds_fit, both_fit}
 
@@ -126,6 +127,32 @@ places_more events kinds i total p k e is kind here same of_event =
     let added : p ≡ places_of named (kind_of named (suc i)) (named (suc i)) =
     of_event ∙ (ap (λ o. places_of named o (Some e)) (sym kind ∙ same) ∙ ap (places_of named (kind_of named (suc i))) (sym here)) in
     ap (λ t. t + p) is ∙ ap (λ q. places_to events i + q) added
+
+sum_rises : (f : ℕ → ℕ) (last all : ℕ) → last ≤ all → sum_to f last ≤ sum_to f all
+sum_rises f last zero h = let none : last ≡ 0 = omega (arith, h) in rw none (omega arith)
+sum_rises f last (suc all) h = ⊎_elim
+    (λ (before : last < suc all). omega (arith, sum_rises f last all (omega (arith, before))))
+    (λ (past : suc all ≤ last). let same : last ≡ suc all = omega (arith, h, past) in rw same (omega arith))
+    (cases_lt last (suc all))
+
+-- a pass counts down from the most places: so many are left behind the events up to a name
+module _ (events : List Event) (i left most : ℕ) (counted : places_to events i + left ≡ most) where
+  pub left_behind_all : i ≤ length events → length events ≤ i → most - left ≡ min (room events) most
+  left_behind_all within all =
+      let last : i ≡ length events = omega (arith, within, all) in
+      omega (arith, counted, ap (places_to events) last)
+
+  module _ (p : ℕ) (more : places_to events i + p ≡ places_to events (suc i)) where
+    pub left_behind_next : (rest : ℕ) → p ≤ left × rest ≡ left - p → places_to events (i + 1) + rest ≡ most
+    left_behind_next rest fits =
+        let same : suc i ≡ i + 1 = omega arith in
+        subst (λ n. places_to events n + rest ≡ most) same (omega (arith, counted, more, fits.0, fits.1))
+
+    -- the next event takes more than is left, so the script takes more than the most
+    pub room_above : i < length events → (p ≤ left → ⊥) → most ≡ min (room events) most
+    room_above within above =
+        let rises = sum_rises (λ n. places_of (event_of events) (kind_of (event_of events) n) (event_of events n)) (suc i) (length events) (omega (arith, within)) in
+        omega (arith, counted, more, above, rises)
 
 pub bounds_to_fit : (events : List Event) (last : ℕ) → last ≤ MOST_EVENTS → sum_to (both_bounds (event_of events)) last < 2 ^ 49
 bounds_to_fit events last few = omega (arith, sum_fits (both_bounds (event_of events)) most_items (both_fit (event_of events)) last)

@@ -109,8 +109,8 @@ module _ (events : List Event) (script : IsScript events) (sum : ℕ → ℕ) (k
       (of_bounds ∙ bounds_next (event_of events) seen so_far.right e may_read.base may_read.other named ∙ ap (bounds (event_of events)) so_far.as_many) in
       ap (λ t. t + (first + second)) passed.added ∙ ap (λ n. sum taken + n) made ∙ whole
 
-  pub passed_more : (after : List SizeBounds) (b : SizeBounds) (n : ℕ) → (b.first, b.second) ≡ next_bounds seen e → after ≡ kept ++ b ∷ [] → total + n ≡ sum (suc taken) → IsPassed events sum after (taken + 1) (total + n)
-  passed_more after b n of_bounds grown added = record {
+  pub passed_more : (after : List SizeBounds) (b : SizeBounds) (now : ℕ) → (b.first, b.second) ≡ next_bounds seen e → after ≡ kept ++ b ∷ [] → now ≡ sum (suc taken) → IsPassed events sum after (taken + 1) now
+  passed_more after b now of_bounds grown added = record {
     right = subst (AreKept (event_of events)) (sym (grown ∙ ap (λ bs. bs ++ b ∷ []) (sym same)))
         (more_kept (event_of events) seen so_far.right e may_read.base may_read.other b named of_bounds);
     as_many = omega (arith, ap length grown, length-append kept (b ∷ []), passed.as_many);

@@ -1,6 +1,6 @@
 //! The room of a script and the sum of its size bounds, in one pass over its events.
 
-ghost use Rattle.std.specs.Prelude.{◌≡◌, ℕ, suc, ◌+◌, ◌*◌, ◌≤◌, ◌<◌, ◌^◌, [], ◌∷◌, cond, List, IfOk, IfSome, length, slice_get, vec_capacity};
+ghost use Rattle.std.specs.Prelude.{◌≡◌, ℕ, suc, ◌+◌, ◌*◌, ◌≤◌, ◌<◌, ◌^◌, [], ◌∷◌, min, cond, List, IfOk, IfSome, length, slice_get, vec_capacity};
 ghost use Rattle.lazy_rec.specs.declared.events.Event.{Event};
 ghost use Rattle.lazy_rec.specs.declared.limits.TheConstants.{MOST_EVENTS};
 ghost use Rattle.lazy_rec.specs.Kinds.{is_split};
@@ -136,31 +136,36 @@ fn next_places(kept: &[SizeBounds], kind: Kind, event: &Event, n1: u32) -> u64
     places_by_size(kind, event.op, n1, bound_at(kept, event.other))
 }
 
-/// The room of a script: the sum over its events of `direct + 8 * due`, at the size bounds of their bases in place of
-/// sizes. A store with so many free nodes is never full in a run of the script. It is below 2^54. The kinds are those of the
-/// events, in order.
+/// The room of a script, or `most` where this is less. The room is the sum over its events of `direct + 8 * due`, at the size
+/// bounds of their bases in place of sizes. A store with so many free nodes is never full in a run of the script. It is below
+/// 2^54. The kinds are those of the events, in order. No script is given a store of more places than the largest has, so the pass
+/// ends where it has counted more than `most`, and the rest of the script isn't read.
 #[inline(never)]
-pub fn room(alloc: Global, kinds: &[Kind], events: &[Event]) -> Result<u64, NoMemory>
+pub fn room(alloc: Global, kinds: &[Kind], events: &[Event], most: u64) -> Result<u64, NoMemory>
     requires script { IsScript events.now }
     requires many { length kinds.now ≡ length events.now }
     requires kinds { (i : ℕ) → i < length events.now → slice_get kinds.now i ≡ kind_of (event_of events.now) (suc i) }
-    ensures { IfOk result (λ places. places ≡ room events.now) }
+    ensures { IfOk result (λ places. places ≡ min (room events.now) most) }
 {
     let mut kept = before_all(alloc, events.len())?;
-    let mut total = 0;
+    let mut left = most;
     for i in 0..events.len() {
         let event = &events[i];
         let seen = kept.as_slice();
         let base = bound_at(seen, event.base);
-        total += next_places(seen, kinds[i], event, base);
+        let places = next_places(seen, kinds[i], event, base);
+        let Some(rest) = left.checked_sub(places) else {
+            return Ok(most);
+        };
+        left = rest;
         let bounds = next_bounds(seen, event, base);
         kept.push_reserved(bounds);
     }
-    Ok(total)
+    Ok(most - left)
 }
 
-/// The same where no event's places depend on sizes, as in a script of queues; else nothing. It reads the kinds of the events, in
-/// order, and takes no memory.
+/// The room where no event's places depend on sizes, as in a script of queues; else nothing. It reads the kinds of the events, in
+/// order, and takes no memory. Such events take at most 18 places each, so that a limit would hardly end the pass earlier.
 #[inline(never)]
 pub fn fixed_room(kinds: &[Kind], events: &[Event]) -> Option<u64>
     requires script { IsScript events.now }
@@ -239,19 +244,20 @@ mod tests {
         Op::First, 2147483653 0 0;
     };
 
-    /// By hand the events take 1, 3 + 8 * 1, 0, 2 + 8 * 2 and 0 places, and the size bounds are 0, 1, 1, 0 and 0.
+    /// By hand the events take 1, 3 + 8 * 1, 0, 2 + 8 * 2 and 0 places, one more than the limit here, and the size bounds are 0, 1, 1,
+    /// 0 and 0.
     #[test]
     fn smallest_rotation(rt: HostRuntime) -> Result<(), Fail> {
-        assert_eq!(rt; room(rt.alloc(), &[Kind::Bankq; 5], &ROTATION)?, 30);
+        assert_eq!(rt; room(rt.alloc(), &[Kind::Bankq; 5], &ROTATION, 29)?, 29);
         assert_eq!(rt; model_size(rt.alloc(), &ROTATION)?, 2);
         Ok(())
     }
 
-    /// By hand the events take 0, 6 + 8 * 1, 6 + 8 * 2, 24 + 8 * 8, 16 + 8 * 2 and 0 places, and the size bounds are 0, 1, 2,
-    /// 1 and 1, 1 and 0, and 0.
+    /// By hand the events take 0, 6 + 8 * 1, 6 + 8 * 2, 24 + 8 * 8, 16 + 8 * 2 and 0 places, just the limit here, and the size bounds
+    /// are 0, 1, 2, 1 and 1, 1 and 0, and 0.
     #[test]
     fn second_versions(rt: HostRuntime) -> Result<(), Fail> {
-        assert_eq!(rt; room(rt.alloc(), &[Kind::Seq; 6], &CUTS)?, 156);
+        assert_eq!(rt; room(rt.alloc(), &[Kind::Seq; 6], &CUTS, 156)?, 156);
         assert_eq!(rt; model_size(rt.alloc(), &CUTS)?, 6);
         Ok(())
     }

@@ -1,5 +1,5 @@
 //! What runs on one thread.
-ghost use Rattle.std.specs.Prelude.{◌≡◌, ◌≢◌, ◌↔◌, ◌≤◌, ℕ, List, Option, map, string_bytes, false, None, Some, IfOk, IfSome, OnOk, IfErr, length};
+ghost use Rattle.std.specs.Prelude.{◌≡◌, ◌≢◌, ◌↔◌, ◌≤◌, ℕ, List, Option, min, map, string_bytes, false, None, Some, IfOk, IfSome, OnOk, IfErr, length};
 ghost use Rattle.lazy_rec.specs.declared.events.Event.{Event};
 ghost use Rattle.dues.specs.Rooms.{room};
 ghost use Rattle.heap_store.specs.World.{World};
@@ -94,15 +94,16 @@ struct Ran {
     report: Printed,
 }
 
-// The room of a script. Where the kinds of its events tell it, no more is read.
+// The room of a script, at most the places of the largest store. Where the kinds of its events tell it, no more is read.
 fn room_of(alloc: Global, script: &Script) -> Result<u64, NoMemory>
-    ensures { IfOk result (λ places. places ≡ room script.now.events) }
+    ensures { IfOk result (λ places. places ≡ min (room script.now.events) MOST_NODES) }
 {
+    let most = u64::from(MOST_NODES);
     let events = script.events();
     let kinds = script.kinds();
     match fixed_room(kinds, events) {
-        Some(places) => Ok(places),
-        None => room(alloc, kinds, events),
+        Some(places) => Ok(places.min(most)),
+        None => room(alloc, kinds, events, most),
     }
 }
 
@@ -116,7 +117,7 @@ fn nodes_for(alloc: Global, nodes: Option<u32>, script: &Script) -> Result<u32, 
         return Ok(nodes);
     }
     let room = room_of(alloc, script)?;
-    Ok(room.min(u64::from(MOST_NODES)) as u32)
+    Ok(room as u32)
 }
 
 // Runs a script. The report is written over the script's text.

@@ -1,4 +1,4 @@
-use Rattle.std.proofs.Common.{◌∙◌, suc, ◌+◌, ap, refl, rules, arith}
+use Rattle.std.proofs.Common.{◌∙◌, suc, ap, refl, rules, arith}
 use Rattle.std.proofs.lemmas.Option.{slice_get-get_or}
 use Rattle.lazy_rec.specs.History.{event_of}
 use Rattle.dues.specs.Rooms.{sum_to, both_bounds}
@@ -38,7 +38,7 @@ loop-event-preserved c =
     record {
       passed = passed_more c.args.events.now c.requires (sum_to (both_bounds (event_of c.args.events.now))) c.loop-event.kept.items c.as_slice-seen.result.now c.loop-event.event-index c.loop-event.total _
           c.loop-event.invariant.passed c.as_slice-seen.ensures.value (slice_get-get_or c.args.events.now c.loop-event.event-index _ c.loop-event-test.true)
-          c.push_reserved.new.self.items c.next_bounds-bounds.result (c.next_bounds-bounds.result.first + c.next_bounds-bounds.result.second) c.next_bounds-bounds.ensures c.push_reserved.ensures.items added;
+          c.push_reserved.new.self.items c.next_bounds-bounds.result _ c.next_bounds-bounds.ensures c.push_reserved.ensures.items added;
       room = rw c.push_reserved.ensures.capacity c.loop-event.invariant.room;
     }
 
