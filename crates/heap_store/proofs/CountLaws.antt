@@ -3,8 +3,6 @@ use Rattle.std.proofs.Common.{◌≡◌, ◌≤◌, ◌+◌, refl, sym, ap, ◌�
 use Rattle.std.specs.List.{AllByRecursion, IsDistinct}
 use Rattle.std.specs.Set.{is_member, distinct_count, unique_keys}
 use Rattle.std.specs.Cmp.{IsEquivalence}
-use Rattle.std.specs.Prelude.{flat_map}
-use Rattle.heap_store.proofs.Alls.{All-map}
 use Rattle.std.proofs.lemmas.List.Folds.{list_any-append}
 use Rattle.std.proofs.lemmas.Map.Made.{length-le_from_is_member, length-from_keys, is_member-filter}
 use Rattle.std.proofs.lemmas.Bool.{true≢false, or_cases}
@@ -104,21 +102,3 @@ module _ {K : Type 0} {eq : K → K → Bool} (laws : IsEquivalence eq) where
   -- distinct keys that are all in a list are at most as many as it has
   pub length_fits : (us seen : List K) → IsDistinct eq us → AllByRecursion (λ u. is_member eq seen u ≡ true) us → length us ≤ distinct_count eq seen
   length_fits us seen d h = length-le_from_is_member laws us (unique_keys eq seen) d (λ q m. member-unique seen q ∙ all_at us seen h q m)
-
-  -- lists that share no key, one after another
-  abbrev pub Apart : {P : Type 0} → (P → List K) → List P → Type 0
-  Apart f [] = Unit {0}
-  Apart f (p ∷ ps) = IsDistinct eq (f p) × AllByRecursion (λ q. AllByRecursion (λ x. is_member eq (f q) x ≡ false) (f p)) ps × Apart f ps
-
-  absent_flat : {P : Type 0} (f : P → List K) (x : K) (ps : List P) → AllByRecursion (λ q. is_member eq (f q) x ≡ false) ps → is_member eq (flat_map f ps) x ≡ false
-  absent_flat f x [] h = refl
-  absent_flat f x (p ∷ ps) h = list_any-append (eq x) (f p) (flat_map f ps) ∙ rw (h.0, absent_flat f x ps h.1) refl
-
-  turned : {P : Type 0} (f : P → List K) (xs : List K) (ps : List P) → AllByRecursion (λ q. AllByRecursion (λ x. is_member eq (f q) x ≡ false) xs) ps → AllByRecursion (λ x. AllByRecursion (λ q. is_member eq (f q) x ≡ false) ps) xs
-  turned f [] ps h = tt
-  turned f (x ∷ xs) ps h = (All-map (λ q. AllByRecursion (λ y. is_member eq (f q) y ≡ false) (x ∷ xs)) _ (λ q k. k.0) ps h, turned f xs ps (All-map (λ q. AllByRecursion (λ y. is_member eq (f q) y ≡ false) (x ∷ xs)) _ (λ q k. k.1) ps h))
-
-  pub distinct-flat : {P : Type 0} (f : P → List K) (ps : List P) → Apart f ps → IsDistinct eq (flat_map f ps)
-  unfolding IsDistinct
-  distinct-flat f [] h = tt
-  distinct-flat f (p ∷ ps) h = distinct-append (f p) (flat_map f ps) h.0 (distinct-flat f ps h.2) (All-map (λ x. AllByRecursion (λ q. is_member eq (f q) x ≡ false) ps) _ (λ x k. absent_flat f x ps k) (f p) (turned f (f p) ps h.1))

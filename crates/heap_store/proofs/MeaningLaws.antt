@@ -143,10 +143,6 @@ means_kept a b names keeps = by_place_agree [] _ _ (IsPublished a) (λ p g h is 
     ∙ means_same a b names keeps p g h same is.0 is.1 (names p is.0 is.1) (All-map (IsNamedWell a p) _ (λ q w. same q.0 w.0 (w.1, w.2)) (named is.0) (names p is.0 is.1))
     ∙ sym (ap (means_at b h p) (keeps p is.0 is.1)))
 
--- so it does what a record means, from what it names
-pub means_of_kept : (a b : Records) (names : NamesWell a) → Keeps a b → (p : ℕ) (r : Rec) → a p ≡ Some r → means_of a (means a) p r ≡ means_of b (means b) p r
-means_of_kept a b names keeps p r e = means_same a b names keeps p (means a) (means b) (λ q l is. means_kept a b names keeps q is) r e (names p r e) (All-map (IsNamedWell a p) _ (λ q w. means_kept a b names keeps q.0 (w.1, w.2)) (named r) (names p r e))
-
 -- at a published place the meaning is that of the record, from the meanings of other places
 pub means_is : (a : Records) → NamesWell a → (p : ℕ) (r : Rec) → a p ≡ Some r → means a p ≡ means_of a (means a) p r
 unfolding means by_place

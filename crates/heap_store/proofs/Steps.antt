@@ -243,15 +243,6 @@ filling_put {a} {b} {c} {before} {run} {run'} {r} {spent} f p e none =
 pub filling_paid : {a b c : View} {before run run' : Span} {r : Rec} {spent : ℕ} → IsFilling a b before run spent → Put b c run.next r → run' ≡ record run { next = run.next + 1 } → Fits b run.next r → IsFilling a c before run' (spent + gain_at b.seen run.next r)
 filling_paid {a} {b} {c} {before} {run} {run'} {r} f p e fits = filling_by (gain_at b.seen run.next r) f p e (put_spends p fits)
 
--- a filled run in which no more was spent than the newest claim brought
-pub filling_no_lower : {a b : View} {before run : Span} {spent : ℕ} → IsFilling a b before run spent → spent ≤ brought a before run → a.hand.credits ≤ b.hand.credits
-filling_no_lower f le = omega (arith, f.credits, le)
-
--- a hand whose newest claim is of a suspension and has published nothing
-pub newest_brings : (rs : Records) (s : Ref) (cs : List HeldClaim) → IsNewest s cs → brings rs cs ≡ credits_at rs s.0
-newest_brings rs s [] new = absurd new
-newest_brings rs s (c ∷ cs) new = rw new refl
-
 -- ---- the newest claim
 
 -- at first an attempt has passed nothing

@@ -13,13 +13,6 @@ use Rattle.heap_store.specs.Budget.{sum_below, sum_records}
 abbrev pub term : Records → (ℕ → Rec → ℕ) → ℕ → ℕ
 term rs f p = at_record 0 (f p) (rs p)
 
-pub term-same : (rs : Records) (f g : ℕ → Rec → ℕ) (p : ℕ) → ((r : Rec) → rs p ≡ Some r → f p r ≡ g p r) → term rs f p ≡ term rs g p
-term-same rs f g p h = by (rs p) refl
-  where
-    by : (o : Option Rec) → rs p ≡ o → at_record 0 (f p) o ≡ at_record 0 (g p) o
-    by None e = refl
-    by (Some r) e = h r e
-
 pub term-le : (rs : Records) (f g : ℕ → Rec → ℕ) (p : ℕ) → ((r : Rec) → rs p ≡ Some r → f p r ≤ g p r) → term rs f p ≤ term rs g p
 term-le rs f g p h = by (rs p) refl
   where
