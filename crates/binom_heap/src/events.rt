@@ -21,9 +21,8 @@ use heap_store::{After, Cursor, EventJob, Heap, Prep, Run, Stage, value_place};
 use lazy_rec::limits::MOST_ITEMS;
 use lazy_rec::{Item, Kind, Op, Rec, Ref, Reply};
 
-/// How many places the first stage of an operation takes, at the sizes of the base and of the other. A call, since what is
-/// inlined here would be computed ahead of the loop over an event's stages, for the events of every kind.
-#[inline(never)]
+/// How many places the first stage of an operation takes, at the sizes of the base and of the other.
+#[inline(always)]
 fn start_places(op: Op, n: u32, m: u32) -> u32
     requires base { n ≤ most_items }
     requires other { m ≤ most_items }
@@ -37,6 +36,8 @@ fn start_places(op: Op, n: u32, m: u32) -> u32
     }
 }
 
+/// How many places a meld takes, and the top of what a `delmin` leaves. A call: an insert would compute it ahead.
+#[inline(never)]
 fn meld_places(n: u32, m: u32) -> u32
     requires base { n ≤ most_items }
     requires other { m ≤ most_items }
@@ -188,7 +189,8 @@ fn paid_places<H: Heap>(h: &mut H, op: Op, size: u32, trees: Ref, cursor: &mut C
     }
 }
 
-/// The places of a delmin's second stage, and the least tree by the cursor. A call, as `start_places` is.
+/// The places of a delmin's second stage, and the least tree by the cursor. A call, since what walks over trees wants the registers for
+/// itself.
 #[inline(never)]
 fn removal_places<H: Heap>(h: &mut H, size: u32, trees: Ref, cursor: &mut Cursor) -> u32
     requires trees { is_trees_only (recs (H.view h.old).seen) trees.0 ≡ true }
@@ -289,17 +291,17 @@ pub fn build_event<H: Heap>(h: &mut H, job: &EventJob, cursor: &Cursor, run: &mu
     ensures base { job.now.stage ≡ Stage.Start → run.old.next ≡ run.old.end → ends_at result job.now.base.root.0 ≡ true }
     ensures paid { (top : Ref) → job.now.op ≡ Op.Min → job.now.stage ≡ Stage.HeapPaid top → ends_at result top.0 ≡ true }
 {
+    if let Stage::HeapPaid { top } = job.stage {
+        return match job.op {
+            Op::Min => min(h, job, top, run),
+            Op::Delmin => delmin(h, job, top, cursor, run),
+            _ => unreachable!(),
+        };
+    }
     match job.op {
         Op::Insert => insert(h, job, run),
         Op::Meld => meld(h, job, run),
-        Op::Min => match job.stage {
-            Stage::HeapPaid { top } => min(h, job, top, run),
-            _ => pay(h, job, run),
-        },
-        Op::Delmin => match job.stage {
-            Stage::HeapPaid { top } => delmin(h, job, top, cursor, run),
-            _ => pay(h, job, run),
-        },
+        Op::Min | Op::Delmin => pay(h, job, run),
         _ => job.at_base(Reply::Number(u64::from(job.base.size))),
     }
 }

@@ -76,9 +76,8 @@ pub(crate) fn put_again<H: Heap>(h: &mut H, list: Ref, count: u32, onto: Ref, ru
     put_cell(h, first.tree, more, run)
 }
 
-/// The trees of a list in the other order, in front of another list. It takes a place for each of them. A call, since what is
-/// inlined into the work of events has few registers.
-#[inline(never)]
+/// The trees of a list in the other order, in front of another list. It takes a place for each of them.
+#[inline(always)]
 pub(crate) fn turn<H: Heap>(h: &mut H, list: Ref, onto: Ref, run: &mut Run) -> Ref
     requires { MayTurn (H.view h.old) run.old list.0 onto.0 }
     ensures { Laid (H.view h.old) (H.view h.new) run.old run.new (tree_count (forest (recs (H.view h.old).seen) list.0)) result.0 (turned (forest (recs (H.view h.old).seen) list.0) (forest (recs (H.view h.old).seen) onto.0)) }

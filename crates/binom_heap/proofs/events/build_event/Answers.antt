@@ -7,12 +7,12 @@ use Rattle.binom_heap.proofs.EventTops.{only_size, first_stage, other_kind, buil
 use Rattle.binom_heap.proofs.EventMakes.{size_end}
 use Rattle.binom_heap.proofs.events.build_event.Goals as goal
 
-pub returns-in_default : goal.returns-in_default
-returns-in_default g c =
+pub returns-in_default-op-2 : goal.returns-in_default-op-2
+returns-in_default-op-2 g c =
     let b = plain_build c.requires.build in
     let job = c.args.job.now in
     let kind = c.requires.kind in
-    let op = only_size job.op (ap (λ k. belongs k job.op) (sym kind) ∙ b.base_job.op) c.in_default.not-Insert c.in_default.not-Meld c.in_default.not-Min c.in_default.not-Delmin in
+    let op = only_size job.op (ap (λ k. belongs k job.op) (sym kind) ∙ b.base_job.op) c.in_default-op-2.not-Insert c.in_default-op-2.not-Meld c.in_default-op-2.not-Min c.in_default-op-2.not-Delmin in
     let t = top_of_root (g.H.Heap.view c.args.h.now).seen job.base.root.0 (build_root b job.base b.base_job.base kind) in
     let k = build_top b job.base b.base_job.base kind t.0 t.1 in
     record {
