@@ -46,16 +46,18 @@ pub fn new_event<H: Heap>(h: &mut H, kind: Kind, run: &mut Run) -> Ref
     }
 }
 
-/// What a stage of an event needs, or how many places it takes. The cursor is handed on to its build: for a `delmin` of a heap alone
-/// does it move.
-pub fn prepare_event<H: Heap>(h: &mut H, job: &EventJob, cursor: &mut Cursor) -> Prep
+/// What a stage of an event needs, or how many places it takes, by the kind of its base. The cursor is handed on to its build: for a
+/// `delmin` of a heap alone does it move. Inlined, so that where the kind is known beforehand no stage asks for it.
+#[inline(always)]
+pub fn prepare_event<H: Heap>(h: &mut H, kind: Kind, job: &EventJob, cursor: &mut Cursor) -> Prep
     requires job { IsJob (H.view h.old).seen job.now }
-    requires built { is_built job.now.base.kind job.now.op ≡ true }
+    requires kind { job.now.base.kind ≡ kind }
+    requires built { is_built kind job.now.op ≡ true }
     ensures quiet { Quiet (H.view h.old) (H.view h.new) }
-    ensures cursor_stays { (job.now.base.kind ≡ Kind.Heap → job.now.op ≡ Delmin → ⊥) → cursor.new ≡ cursor.old }
+    ensures cursor_stays { (kind ≡ Kind.Heap → job.now.op ≡ Delmin → ⊥) → cursor.new ≡ cursor.old }
     ensures answer { EventPrepared is_any_work (IsReadyEvent cursor.new) (H.view h.new).seen job.now result }
 {
-    match job.base.kind {
+    match kind {
         Kind::Stream => lazy_stream::prepare_event(h, job, cursor),
         Kind::Bankq => bank_queue::prepare_event(h, job, cursor),
         Kind::Rtq => rt_queue::prepare_event(h, job, cursor),
@@ -65,13 +67,21 @@ pub fn prepare_event<H: Heap>(h: &mut H, job: &EventJob, cursor: &mut Cursor) ->
     }
 }
 
-/// Does a stage of an event whose needs are done: its result, or the next stage.
-pub fn build_event<H: Heap>(h: &mut H, job: &EventJob, cursor: &Cursor, run: &mut Run) -> After
-    requires built { is_built job.now.base.kind job.now.op ≡ true }
+/// Does a stage of an event whose needs are done: its result, or the next stage. Inlined as `prepare_event` is.
+#[inline(always)]
+pub fn build_event<H: Heap>(
+    h: &mut H,
+    kind: Kind,
+    job: &EventJob,
+    cursor: &Cursor,
+    run: &mut Run,
+) -> After
+    requires kind { job.now.base.kind ≡ kind }
+    requires built { is_built kind job.now.op ≡ true }
     requires build { IsEventBuildable (IsReadyEvent cursor.now) (H.view h.old) job.now run.old }
     ensures { IsEventBuilt (H.view h.old) (H.view h.new) job.now run.old run.new result }
 {
-    match job.base.kind {
+    match kind {
         Kind::Stream => lazy_stream::build_event(h, job, cursor, run),
         Kind::Bankq => bank_queue::build_event(h, job, cursor, run),
         Kind::Rtq => rt_queue::build_event(h, job, cursor, run),

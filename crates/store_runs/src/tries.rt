@@ -139,7 +139,7 @@ pub fn need_of_head<R: Rows>(heap: &mut R, version: u32) -> Option<Ref>
         return None;
     }
     let job = head_of(base);
-    match prepare_event(heap, &job, &mut Cursor::new()) {
+    match prepare_event(heap, job.base.kind, &job, &mut Cursor::new()) {
         Prep::Need(need) => Some(need),
         Prep::Ready { .. } => None,
     }

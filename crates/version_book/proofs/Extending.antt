@@ -16,8 +16,8 @@ use Rattle.version_book.specs.declared.answers.Refuse.{Refuse}
 use Rattle.version_book.specs.declared.answers.Refuse.TheVariants as refusals
 use Rattle.version_book.specs.Pass.{Pass}
 use Rattle.version_book.specs.Calls.{HasSeen, MayExtend, IsOutOfNames}
-use Rattle.version_book.specs.Solo.{IsSolo}
-use Rattle.version_book.proofs.InOrder.{HasTicket, ticket}
+use Rattle.version_book.specs.Solo.{IsSolo, HasTicket}
+use Rattle.version_book.proofs.InOrder.{ticket}
 use Rattle.version_book.proofs.EventJobs.{version_later}
 
 -- ---- the pass stays one that works alone

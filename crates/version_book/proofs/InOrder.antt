@@ -33,19 +33,10 @@ use Rattle.version_book.specs.declared.answers.Look.TheVariants.{Found, NotYet, 
 use Rattle.version_book.specs.Closed.{IsRefusal}
 use Rattle.version_book.specs.Pass.{Pass, pass_of}
 use Rattle.version_book.specs.RowSteps.{IsNextEvent, HasLostBase, ended_row, skipped_row}
-use Rattle.version_book.specs.Calls.{HasDrawn, HasSeen, MayExtend, IsOutOfNames, Called, CalledAlone, Ended, IsFound, Shown, ending_told, is_named, event_of_call, new_event}
-use Rattle.version_book.specs.Solo.{IsSolo, UsesEnded, AreBases, ComesNext, Ran}
+use Rattle.version_book.specs.Calls.{HasSeen, MayExtend, IsOutOfNames, Called, CalledAlone, Ended, IsFound, Shown, ending_told, is_named, event_of_call, new_event}
+use Rattle.version_book.specs.Solo.{IsSolo, UsesEnded, HasTicket, AreBases, ComesNext, Ran}
 
 -- ---- a name
-
--- a name is drawn: the next one, and nothing else has changed
-pub record HasTicket (p q : Pass) (name : ℕ) : Type 0 where
-  pub next : name ≡ p.view.named + 1
-  pub seen : q.view.seen ≡ p.view.seen
-  pub about : q.view.about ≡ p.view.about
-  pub caller : q.caller ≡ p.caller
-  pub named : q.view.named ≡ name
-  pub drawn : HasDrawn q name
 
 pub ticket : {p q : Pass} {name : ℕ} → IsSolo p → NameDrawn p.view q.view name → q.caller ≡ p.caller → HasTicket p q name
 ticket {p} {q} {name} solo n caller =
@@ -59,10 +50,10 @@ ticket {p} {q} {name} solo n caller =
       drawn = rw n.hand (contains-append_right p.view.hand.names (name ∷ []) name (or_left _ _ (eq-eqb name name refl)));
     }
 
-pub out_of_names : (p : Pass) (w : View) {e : Event} (refuse : Refuse) → IsSolo p → ComesNext p e → IsOutOfNames p.view w refuse → ⊥
-out_of_names p w (refusals.NamesFull none) solo next n = omega (arith, n.full, (n.alone solo.alone).1, next.room)
-out_of_names p w (refusals.StoreFull refusal) solo next n = n
-out_of_names p w refusals.NoMemory solo next n = n
+pub out_of_names : (p : Pass) (w : View) (refuse : Refuse) → IsSolo p → p.view.named < p.view.about.rows → IsOutOfNames p.view w refuse → ⊥
+out_of_names p w (refusals.NamesFull none) solo room n = omega (arith, n.full, (n.alone solo.alone).1, room)
+out_of_names p w (refusals.StoreFull refusal) solo room n = n
+out_of_names p w refusals.NoMemory solo room n = n
 
 -- passes are the same by their views and callers
 pub same_parts : (v w : View) (a b : ℕ) → v ≡ w → a ≡ b → pass_of v a ≡ pass_of w b
@@ -154,6 +145,26 @@ four x y b c o n a m e f g h = rw (e, f, g, h) refl
 found_seen : {w : World} {n : ℕ} {v : Version} → IsFound w n v → version_at (row_at w) v.name ≡ Some v
 found_seen {w} {n} {v} f = ap (version_at (row_at w)) f.number ∙ f.here
 
+-- what comes next and starts from a version starts from versions whose rows have ended
+pub uses_ended : (p : Pass) (e : Event) → ComesNext p e → uses_base e.op ≡ true → UsesEnded p e
+uses_ended p e next u = record {
+  based = u;
+  low = all_up (is_smaller (p.view.named + 1)) (is_smaller (p.view.named + 1)) (λ n. ltb 0 (event_name n) && leb (event_name n) p.view.about.rows) (bases e) (λ n s _. low n s) next.smaller next.smaller;
+  ended = next.ended;
+  seconds = next.seconds;
+}
+  where
+    low : (n : ℕ) → is_smaller (p.view.named + 1) n ≡ true → ltb 0 (event_name n) && leb (event_name n) p.view.about.rows ≡ true
+    low n s =
+        let less = smaller-lt (p.view.named + 1) n s in
+        and_from (ltb 0 (event_name n)) _ (lt-ltb 0 (event_name n) (smaller-pos (p.view.named + 1) n s)) (le-leb (event_name n) p.view.about.rows (omega (arith, less, next.room)))
+
+-- and its operation is built for the base's kind
+pub built_on : (p : Pass) (e : Event) (base : Version) → IsLegal p.view.seen → ComesNext p e → uses_base e.op ≡ true → IsFound p.view.seen e.base base → is_built base.kind e.op ≡ true
+built_on p e base legal next u found =
+    let k : kind_made (kind_of (events_of (row_at p.view.seen))) (Some e) ≡ Some base.kind = kind-if_base e.op (kind_of (events_of (row_at p.view.seen)) (event_name e.base)) u ∙ version_kind p.view.seen legal e.base base found.here in
+    rw k at next.built
+
 module _ (p q : Pass) (name : ℕ) (e : Event) (solo : IsSolo p) (next : ComesNext p e) (t : HasTicket p q name) where
   rows_same : row_at q.view.seen ≡ row_at p.view.seen
   rows_same = ap row_at t.seen
@@ -170,20 +181,6 @@ module _ (p q : Pass) (name : ℕ) (e : Event) (solo : IsSolo p) (next : ComesNe
   pub next_event : IsNextEvent q.view name e
   next_event = record { trim = next.trim; smaller = rw t.next next.smaller; argument = next.argument; planned = λ events h. no_plan events h }
 
-  pub uses_ended : uses_base e.op ≡ true → UsesEnded q e
-  uses_ended u = record {
-    based = u;
-    low = all_up (is_smaller (p.view.named + 1)) (is_smaller (p.view.named + 1)) (λ n. ltb 0 (event_name n) && leb (event_name n) q.view.about.rows) (bases e) (λ n s _. low n s) next.smaller next.smaller;
-    ended = subst (λ (rs : NamedRows). list_all (λ n. is_ended_at rs (event_name n)) (bases e) ≡ true) (sym rows_same) next.ended;
-    seconds = subst (λ (rs : NamedRows). list_all (is_named_well (events_of rs)) (bases e) ≡ true) (sym rows_same) next.seconds;
-  }
-    where
-      low : (n : ℕ) → is_smaller (p.view.named + 1) n ≡ true → ltb 0 (event_name n) && leb (event_name n) q.view.about.rows ≡ true
-      low n s =
-          let rows = ap (λ (a : About). a.rows) t.about in
-          let less = smaller-lt (p.view.named + 1) n s in
-          and_from (ltb 0 (event_name n)) _ (lt-ltb 0 (event_name n) (smaller-pos (p.view.named + 1) n s)) (le-leb (event_name n) q.view.about.rows (omega (arith, less, rows, next.room)))
-
   pub built_new : (kind : Kind) → e.op ≡ ops.New kind → is_built kind (ops.New kind) ≡ true
   built_new kind op = subst (λ o. is_some_and (λ k. is_built k o) (new_kind o (kind_of (events_of (row_at p.view.seen)) (event_name e.base))) ≡ true) op next.built
 
@@ -196,16 +193,19 @@ module _ (p q : Pass) (name : ℕ) (e : Event) (solo : IsSolo p) (next : ComesNe
       by : e.base ≡ 0 → e.other ≡ 0 → e.arg ≡ 0 → e ≡ new_event kind
       by b o a = four e.op (ops.New kind) e.base 0 e.other 0 e.arg 0 op b o a
 
-  module _ (legal : IsLegal q.view.seen) (u : uses_base e.op ≡ true) (base other : Version) (b : AreBases q e base other) where
+  module _ (legal : IsLegal q.view.seen) (u : uses_base e.op ≡ true) (base other : Version) (found : AreBases p e base other) where
+    pub bases_still : AreBases q e base other
+    bases_still = record { base_is = rw t.seen found.base_is; other_is = λ o. rw t.seen (found.other_is o); alone = found.alone }
+
     other_seen : HasSeen q other
     other_seen = by (uses_other e.op) refl
       where
         by : (o : Bool) → uses_other e.op ≡ o → HasSeen q other
-        by true o = found_seen (b.other_is o)
-        by false o = subst (λ (v : Version). HasSeen q v) (sym (b.alone o)) (found_seen b.base_is)
+        by true o = found_seen (bases_still.other_is o)
+        by false o = subst (λ (v : Version). HasSeen q v) (sym (bases_still.alone o)) (found_seen bases_still.base_is)
 
     base_seen : HasSeen q base
-    base_seen = found_seen b.base_is
+    base_seen = found_seen bases_still.base_is
 
     older : (n : ℕ) → is_smaller (p.view.named + 1) n ≡ true → event_name n < name
     older n s = rw t.next (smaller-lt (p.view.named + 1) n s)
@@ -214,54 +214,49 @@ module _ (p q : Pass) (name : ℕ) (e : Event) (solo : IsSolo p) (next : ComesNe
     other_older = by (uses_other e.op) refl
       where
         by : (o : Bool) → uses_other e.op ≡ o → event_name other.name < name
-        by true o = rw (b.other_is o).number (older e.other (other_passes (is_smaller (p.view.named + 1)) e next.smaller o))
-        by false o = rw (b.alone o, b.base_is.number) (older e.base (base_passes (is_smaller (p.view.named + 1)) e next.smaller u))
+        by true o = rw (bases_still.other_is o).number (older e.other (other_passes (is_smaller (p.view.named + 1)) e next.smaller o))
+        by false o = rw (bases_still.alone o, bases_still.base_is.number) (older e.base (base_passes (is_smaller (p.view.named + 1)) e next.smaller u))
 
     kinds_here : is_of_its_kind (events_of (row_at q.view.seen)) e ≡ true
     kinds_here = subst (λ (rs : NamedRows). is_of_its_kind (events_of rs) e ≡ true) (sym rows_same) next.kinds
 
     base_kind : kind_of (events_of (row_at q.view.seen)) (event_name e.base) ≡ Some base.kind
-    base_kind = version_kind q.view.seen legal e.base base b.base_is.here
+    base_kind = version_kind q.view.seen legal e.base base bases_still.base_is.here
 
     kinds_same : same_kind base.kind other.kind ≡ true
     kinds_same = by (uses_other e.op) refl
       where
         by : (o : Bool) → uses_other e.op ≡ o → same_kind base.kind other.kind ≡ true
-        by false o = rw (b.alone o) (eq-eqb _ _ refl)
+        by false o = rw (bases_still.alone o) (eq-eqb _ _ refl)
         by true o =
-            let other_kind : kind_of (events_of (row_at q.view.seen)) (event_name e.other) ≡ Some other.kind = version_kind q.view.seen legal e.other other (b.other_is o).here in
+            let other_kind : kind_of (events_of (row_at q.view.seen)) (event_name e.other) ≡ Some other.kind = version_kind q.view.seen legal e.other other (bases_still.other_is o).here in
             let h = rw (other_kind, base_kind) at (other_passes (has_kind_of_base (events_of (row_at q.view.seen)) e) e kinds_here o) in
             eq-eqb _ _ (sym (eqb-true (kind_number other.kind) (kind_number base.kind) (and_parts (belongs other.kind e.op) (same_kind other.kind base.kind) h).1))
-
-    built_here : is_built base.kind e.op ≡ true
-    built_here =
-        let k : kind_made (kind_of (events_of (row_at p.view.seen))) (Some e) ≡ Some base.kind = kind-if_base e.op (kind_of (events_of (row_at p.view.seen)) (event_name e.base)) u ∙ subst (λ (rs : NamedRows). kind_of (events_of rs) (event_name e.base) ≡ Some base.kind) rows_same base_kind in
-        rw k at next.built
 
     pub may_extend : MayExtend q name e.op base other e.arg
     may_extend = record {
       drawn = t.drawn;
-      built = built_here;
+      built = built_on p e base (subst IsLegal t.seen legal) next u found.base_is;
       based = u;
       kinds = kinds_same;
       base_seen = base_seen;
       other_seen = other_seen;
-      base_older = rw b.base_is.number (older e.base (base_passes (is_smaller (p.view.named + 1)) e next.smaller u));
+      base_older = rw bases_still.base_is.number (older e.base (base_passes (is_smaller (p.view.named + 1)) e next.smaller u));
       other_older = other_older;
-      alone = b.alone;
+      alone = bases_still.alone;
       no_argument = λ a. (let h = (trim_parts e next.trim).argument in eqb-true e.arg 0 (rw a at h));
       planned = λ events h. no_plan events h;
     }
 
     -- the event of the call is this one
     pub event_same : event_of_call e.op base other e.arg ≡ e
-    event_same = by b.base_is.number others
+    event_same = by bases_still.base_is.number others
       where
         others : cond (uses_other e.op) other.name 0 ≡ e.other
         others = of (uses_other e.op) refl
           where
             of : (o : Bool) → uses_other e.op ≡ o → cond (uses_other e.op) other.name 0 ≡ e.other
-            of true o = ap (λ c. cond c other.name 0) o ∙ (b.other_is o).number
+            of true o = ap (λ c. cond c other.name 0) o ∙ (bases_still.other_is o).number
             of false o = ap (λ c. cond c other.name 0) o ∙ (let h = (trim_parts e next.trim).other in sym (eqb-true e.other 0 (rw o at h)))
 
         by : base.name ≡ e.base → cond (uses_other e.op) other.name 0 ≡ e.other → event_of_call e.op base other e.arg ≡ e

@@ -10,19 +10,28 @@ use Rattle.heap_store.specs.declared.versions.Version.{Version}
 use Rattle.heap_store.specs.World.{World}
 use Rattle.heap_store.specs.Rows.{Row, full, row_of, row_at, is_ended, is_ended_at, events_of}
 use Rattle.heap_store.specs.Growth.{Grows}
-use Rattle.heap_store.specs.Budget.{direct_at, of_row, sum_rows}
+use Rattle.heap_store.specs.Budget.{direct_at, due_at, of_row, sum_rows}
 use Rattle.heap_store.specs.Causes.{HasCause}
 use Rattle.heap_store.specs.View.{IsLawfulView}
 use Rattle.kind_table.specs.Kinds.{is_built}
 use Rattle.version_book.specs.Pass.{Pass}
 use Rattle.version_book.specs.Closed.{IsRefusal}
-use Rattle.version_book.specs.Calls.{IsFound}
+use Rattle.version_book.specs.Calls.{HasDrawn, IsFound}
 
 -- no other works on the store, it has no plan, and the rows are those of caller 0
 pub record IsSolo (p : Pass) : Type 0 where
   pub alone : p.view.about.alone ≡ true
   pub plan : p.view.about.plan ≡ None
   pub caller : p.caller ≡ 0
+
+-- a name is drawn: the next one, and nothing else has changed
+pub record HasTicket (p q : Pass) (name : ℕ) : Type 0 where
+  pub next : name ≡ p.view.named + 1
+  pub seen : q.view.seen ≡ p.view.seen
+  pub about : q.view.about ≡ p.view.about
+  pub caller : q.caller ≡ p.caller
+  pub named : q.view.named ≡ name
+  pub drawn : HasDrawn q name
 
 -- the event starts from versions, whose rows have ended; a second version that it uses is one of a split
 pub record UsesEnded (p : Pass) (e : Event) : Type 0 where
@@ -62,6 +71,13 @@ pub record Ran (old new : Pass) (e : Event) : Type 0 where
   pub ended : is_ended row.ending ≡ true
   pub numbers : (drawn wanted : ℕ) → row.ending ≡ full drawn wanted → IsRefusal new.view.seen old.view.about.capacity drawn wanted
   pub cause : HasCause new.view.seen (direct_at new.view.seen (old.view.named + 1)) row.ending
+
+-- the event was run so, was charged so much, and the store is lawful yet
+pub record RanFor (old new : Pass) (e : Event) (paid : ℕ) : Type 0 where
+  pub ran : Ran old new e
+  pub lawful : IsLawfulView new.view
+  pub charged : paid ≡ due_at new.view.seen new.view.named
+  pub small : paid < 2 ^ 34
 
 -- ---- what holds after so many events
 

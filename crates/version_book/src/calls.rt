@@ -85,7 +85,15 @@ impl<R: Rows> BookPass<R> {
         let job = first_stage(op, base, other, arg);
         let event = event_of_call(&job);
         let unused = &mut self.stack;
-        run(&mut self.heap, unused, self.caller, name, &event, &job)
+        run(
+            &mut self.heap,
+            unused,
+            base.kind,
+            self.caller,
+            name,
+            &event,
+            &job,
+        )
     }
 
     /// Begins and ends an event, and forces what it needs, on a heap that no other thread works on. It always returns.
@@ -111,6 +119,7 @@ impl<R: Rows> BookPass<R> {
         run(
             &mut self.heap,
             &mut self.stack,
+            base.kind,
             self.caller,
             name,
             &event,
@@ -118,9 +127,12 @@ impl<R: Rows> BookPass<R> {
         )
     }
 
-    /// The same for an event that is at hand, on the versions that it names.
+    /// The same for an event that is at hand, on the versions that it names, of which the base's kind is known. Inlined, so that the
+    /// work of one kind is compiled by itself.
+    #[inline(always)]
     pub(crate) fn call_as(
         &mut self,
+        kind: Kind,
         ticket: Ticket,
         event: Event,
         base: Version,
@@ -128,6 +140,7 @@ impl<R: Rows> BookPass<R> {
     ) -> Result<Entry, Refuse>
         requires event { event ≡ event_of_call event.op base other event.arg }
         requires may { MayExtend self.old ticket.name event.op base other event.arg }
+        requires kind { base.kind ≡ kind }
         requires alone { self.old.view.about.alone ≡ true }
         ensures ended { Ended self.old self.new ticket.name event result }
         ensures lawful { IsLawfulView self.new.view }
@@ -137,6 +150,7 @@ impl<R: Rows> BookPass<R> {
         run(
             &mut self.heap,
             &mut self.stack,
+            kind,
             self.caller,
             name,
             &event,

@@ -22,15 +22,18 @@ pub struct Outcome {
     pub reply: Reply,
 }
 
-/// The work of an operation other than `new`: its stages in order. In each, what it needs is forced first, and its prepare is
-/// asked again; then come one reserve and one build. Only an operation that may force asks for a way to.
+/// The work of an operation other than `new` on a base of a kind: its stages in order. In each, what it needs is forced first, and its
+/// prepare is asked again; then come one reserve and one build. Only an operation that may force asks for a way to.
+#[inline(always)]
 pub(crate) fn work<R: Rows, F: Forces>(
     heap: &mut R,
     forces: &mut F,
+    kind: Kind,
     job: &EventJob,
 ) -> Result<Outcome, GiveUp>
     requires idle { (R.view heap.old).hand.claims ≡ [] }
     requires job { IsJob (R.view heap.old).seen job.now }
+    requires kind { job.now.base.kind ≡ kind }
     requires built { is_built job.now.base.kind job.now.op ≡ true }
     requires means { HasMeans (R.view heap.old) job.now }
     requires serves { may_force job.now.base.kind job.now.op ≡ true → F.serves forces.old (R.view heap.old).about ≡ true }
@@ -42,7 +45,7 @@ pub(crate) fn work<R: Rows, F: Forces>(
     let mut now = *job;
     let mut cursor = Cursor::new();
     loop {
-        match prepare_event(heap, &now, &mut cursor) {
+        match prepare_event(heap, kind, &now, &mut cursor) {
             Prep::Need(need) => {
                 if let Err(cause) = forces.force(heap, need) {
                     return Err(cause);
@@ -53,7 +56,7 @@ pub(crate) fn work<R: Rows, F: Forces>(
                     Ok(run) => run,
                     Err(refusal) => return Err(GiveUp::Full(refusal)),
                 };
-                let after = build_event(heap, &now, &cursor, &mut run);
+                let after = build_event(heap, kind, &now, &cursor, &mut run);
                 run.finish();
                 match after {
                     After::End { root, size, reply } => return Ok(Outcome { root, size, reply }),

@@ -11,23 +11,26 @@ use force_engine::GiveUp;
 use heap_store::{Heap, Rows, Version};
 use lazy_rec::Kind;
 
-/// Ends the row of a begun event whose work was stopped, and answers why.
+/// Ends the row of a begun event whose work was stopped.
 #[cold]
 #[inline(never)]
-fn finish_refused<R: Rows>(heap: &mut R, name: u32, cause: GiveUp) -> Refuse
+fn end_stopped<R: Rows>(heap: &mut R, name: u32, cause: GiveUp)
     requires may { MayEndRefused (R.view heap.old) name cause }
-    ensures ended { (r : Row) → row_at (R.view heap.old).seen name ≡ Some r → RowEnded (R.view heap.old) (R.view heap.new) name (record r { ending = ending_refused cause }) }
-    ensures answer { result ≡ refusal_made cause }
+    ensures { (r : Row) → row_at (R.view heap.old).seen name ≡ Some r → RowEnded (R.view heap.old) (R.view heap.new) name (record r { ending = ending_refused cause }) }
 {
     match cause {
-        GiveUp::Full(refusal) => {
-            end_full(heap, name, refusal);
-            Refuse::StoreFull(refusal)
-        }
-        GiveUp::NoMemory => {
-            end_for_memory(heap, name);
-            Refuse::NoMemory
-        }
+        GiveUp::Full(refusal) => end_full(heap, name, refusal),
+        GiveUp::NoMemory => end_for_memory(heap, name),
+    }
+}
+
+/// What is answered where the work was stopped. It is told apart from the row, so that no room for an entry is needed.
+fn refusal(cause: GiveUp) -> Refuse
+    ensures { result ≡ refusal_made cause }
+{
+    match cause {
+        GiveUp::Full(refusal) => Refuse::StoreFull(refusal),
+        GiveUp::NoMemory => Refuse::NoMemory,
     }
 }
 
@@ -45,7 +48,10 @@ pub(crate) fn finish<R: Rows>(
 {
     let outcome = match made {
         Ok(outcome) => outcome,
-        Err(cause) => return Err(finish_refused(heap, name, cause)),
+        Err(cause) => {
+            end_stopped(heap, name, cause);
+            return Err(refusal(cause));
+        }
     };
     let version = Version {
         name,

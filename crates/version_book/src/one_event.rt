@@ -34,10 +34,12 @@ pub(crate) fn event_of_call(job: &EventJob) -> Event
     }
 }
 
-/// Begins and ends an event, which is that of a job, in the way in which it is forced.
+/// Begins and ends an event, which is that of a job on a base of a kind, in the way in which it is forced.
+#[inline(always)]
 pub(crate) fn run<R: Rows, F: Forces>(
     heap: &mut R,
     forces: &mut F,
+    kind: Kind,
     caller: u32,
     name: u32,
     event: &Event,
@@ -48,6 +50,7 @@ pub(crate) fn run<R: Rows, F: Forces>(
     requires idle { IsIdle (R.view heap.old) }
     requires caller { IsCaller (R.view heap.old) caller }
     requires may { MayExtend (pass_of (R.view heap.old) caller) name job.now.op job.now.base job.now.other job.now.arg }
+    requires kind { job.now.base.kind ≡ kind }
     requires start { job.now.stage ≡ Start }
     requires serves { may_force job.now.base.kind job.now.op ≡ true → F.serves forces.old (R.view heap.old).about ≡ true }
     ensures idle { IsIdle (R.view heap.new) }
@@ -59,8 +62,8 @@ pub(crate) fn run<R: Rows, F: Forces>(
     ensures same { (about : About) → F.serves forces.new about ≡ F.serves forces.old about }
 {
     begin(heap, caller, name, event);
-    let made = work(heap, forces, job);
-    finish(heap, name, job.base.kind, made)
+    let made = work(heap, forces, kind, job);
+    finish(heap, name, kind, made)
 }
 
 /// Begins and ends `new`.

@@ -1,41 +1,71 @@
 //! Events in order, on one thread.
-ghost use Rattle.std.specs.Prelude.{◌≡◌, ◌≤◌, ◌<◌, ◌^◌, length, IfOk, IfSome, IfNone};
+ghost use Rattle.std.specs.Prelude.{◌≡◌, true, ◌≤◌, ◌<◌, ◌^◌, length, IfOk, IfSome, IfNone};
 ghost use Rattle.lazy_rec.specs.declared.limits.TheConstants.{MOST_NODES};
+ghost use Rattle.lazy_rec.specs.declared.events.Op.TheVariants.{New};
+ghost use Rattle.lazy_rec.specs.Kinds.{uses_base, uses_other};
 ghost use Rattle.lazy_rec.specs.Due.{due};
 ghost use Rattle.lazy_rec.specs.History.{IsScript};
-ghost use Rattle.heap_store.specs.Budget.{due_at};
 ghost use Rattle.heap_store.specs.View.{IsLawfulView};
 ghost use Rattle.kind_table.specs.Kinds.{AreBuilt};
 ghost use Rattle.version_book.specs.Closed.{IsBook};
 ghost use Rattle.version_book.specs.RowSteps.{HasLostBase};
-ghost use Rattle.version_book.specs.Solo.{IsSolo, UsesEnded, AreBases, ComesNext, Ran, AreRun, dues_to};
+ghost use Rattle.version_book.specs.Calls.{IsFound};
+ghost use Rattle.version_book.specs.Solo.{IsSolo, UsesEnded, HasTicket, AreBases, ComesNext, RanFor, AreRun, dues_to};
 
-use crate::answers::Look;
+use crate::answers::{Look, Ticket};
 use crate::closed::Closed;
 use crate::pass::BookPass;
 use dues::due;
 use force_engine::Stack;
 use heap_store::{PlainHeap, Rows, Version};
-use lazy_rec::{Event, NoMemory, Op};
+use lazy_rec::{Event, Kind, NoMemory, Op};
 use std::alloc::Global;
 
-/// The versions that an event uses, its base twice where it has no other; none where one of them is given up.
-fn bases<R: Rows>(pass: &mut BookPass<R>, event: &Event) -> Option<(Version, Version)>
+/// Draws the next name, where there is one.
+#[inline(always)]
+fn next_ticket<R: Rows>(pass: &mut BookPass<R>) -> Ticket
+    requires solo { IsSolo pass.old }
+    requires room { pass.old.view.named < pass.old.view.about.rows }
+    ensures drawn { HasTicket pass.old pass.new result.name }
+    ensures lawful { IsLawfulView pass.new.view }
+{
+    match pass.draw() {
+        Ok(ticket) => ticket,
+        Err(_) => unreachable!(),
+    }
+}
+
+/// The other version that an event names; none where it is given up. A call, since few events name one.
+#[cold]
+#[inline(never)]
+fn named_other<R: Rows>(pass: &mut BookPass<R>, event: &Event) -> Option<Version>
     requires solo { IsSolo pass.old }
     requires uses { UsesEnded pass.old event.now }
+    requires other { uses_other event.now.op ≡ true }
     ensures same { pass.new ≡ pass.old }
-    ensures bases { IfSome result (λ versions. AreBases pass.old event.now versions.0 versions.1) }
+    ensures found { IfSome result (λ other. IsFound pass.old.view.seen event.now.other other) }
     ensures lost { IfNone result (HasLostBase pass.old.view event.now) }
 {
-    let Look::Found(base) = pass.lookup(event.base) else {
-        return None;
-    };
-    if !event.op.uses_other() {
-        return Some((base, base));
-    }
     match pass.lookup(event.other) {
-        Look::Found(other) => Some((base, other)),
+        Look::Found(other) => Some(other),
         _ => None,
+    }
+}
+
+/// The other version of an event: its base again where it names none, and none where it is given up.
+#[inline(always)]
+fn other_version<R: Rows>(pass: &mut BookPass<R>, event: &Event, base: Version) -> Option<Version>
+    requires solo { IsSolo pass.old }
+    requires uses { UsesEnded pass.old event.now }
+    requires base { IsFound pass.old.view.seen event.now.base base }
+    ensures same { pass.new ≡ pass.old }
+    ensures bases { IfSome result (λ other. AreBases pass.old event.now base other) }
+    ensures lost { IfNone result (HasLostBase pass.old.view event.now) }
+{
+    if event.op.uses_other() {
+        named_other(pass, event)
+    } else {
+        Some(base)
     }
 }
 
@@ -45,13 +75,59 @@ fn size(version: &Version) -> u32
     version.size
 }
 
-/// What an event on these versions is charged.
+/// What an event on versions of a kind is charged.
 #[inline(always)]
-fn charge(op: Op, base: &Version, other: &Version) -> u64
-    ensures value { result ≡ due base.now.kind op base.now.size other.now.size }
+fn charge(kind: Kind, op: Op, base: &Version, other: &Version) -> u64
+    ensures value { result ≡ due kind op base.now.size other.now.size }
     ensures small { result < 2 ^ 34 }
 {
-    due(base.kind, op, size(base), size(other))
+    due(kind, op, size(base), size(other))
+}
+
+/// Runs `new` under the next name, and answers what it was charged.
+#[inline(always)]
+fn run_new<R: Rows>(pass: &mut BookPass<R>, event: &Event, kind: Kind) -> u64
+    requires solo { IsSolo pass.old }
+    requires next { ComesNext pass.old event.now }
+    requires new { event.now.op ≡ New kind }
+    ensures { RanFor pass.old pass.new event.now result }
+{
+    let ticket = next_ticket(pass);
+    let _ = pass.begin_new(ticket, kind);
+    due(kind, event.op, 0, 0)
+}
+
+/// Skips an event of which a base is given up, under the next name. It is charged nothing.
+#[cold]
+#[inline(never)]
+fn run_lost<R: Rows>(pass: &mut BookPass<R>, event: &Event) -> u64
+    requires solo { IsSolo pass.old }
+    requires next { ComesNext pass.old event.now }
+    requires lost { HasLostBase pass.old.view event.now }
+    ensures { RanFor pass.old pass.new event.now result }
+{
+    let ticket = next_ticket(pass);
+    pass.skip(ticket, event);
+    0
+}
+
+/// Runs an event on a base of a kind under the next name, and answers what it was charged. Inlined, so that the events of each kind are
+/// compiled by themselves, and ask for the kind no more.
+#[inline(always)]
+fn run_on<R: Rows>(pass: &mut BookPass<R>, event: &Event, kind: Kind, base: Version) -> u64
+    requires solo { IsSolo pass.old }
+    requires next { ComesNext pass.old event.now }
+    requires based { uses_base event.now.op ≡ true }
+    requires base { IsFound pass.old.view.seen event.now.base base }
+    requires kind { base.kind ≡ kind }
+    ensures { RanFor pass.old pass.new event.now result }
+{
+    let Some(other) = other_version(pass, event, base) else {
+        return run_lost(pass, event);
+    };
+    let ticket = next_ticket(pass);
+    let _ = pass.call_as(kind, ticket, *event, base, other);
+    charge(kind, event.op, &base, &other)
 }
 
 /// Runs an event under the next name, from the versions that it names, and answers what it was charged.
@@ -59,27 +135,21 @@ fn charge(op: Op, base: &Version, other: &Version) -> u64
 fn run_event<R: Rows>(pass: &mut BookPass<R>, event: &Event) -> u64
     requires solo { IsSolo pass.old }
     requires next { ComesNext pass.old event.now }
-    ensures ran { Ran pass.old pass.new event.now }
-    ensures lawful { IsLawfulView pass.new.view }
-    ensures charged { result ≡ due_at pass.new.view.seen pass.new.view.named }
-    ensures small { result < 2 ^ 34 }
+    ensures { RanFor pass.old pass.new event.now result }
 {
-    let Ok(ticket) = pass.draw() else {
-        unreachable!()
-    };
     if let Op::New(kind) = event.op {
-        let _ = pass.begin_new(ticket, kind);
-        return due(kind, event.op, 0, 0);
+        return run_new(pass, event, kind);
     }
-    match bases(pass, event) {
-        Some((base, other)) => {
-            let _ = pass.call_as(ticket, *event, base, other);
-            charge(event.op, &base, &other)
-        }
-        None => {
-            pass.skip(ticket, event);
-            0
-        }
+    let Look::Found(base) = pass.lookup(event.base) else {
+        return run_lost(pass, event);
+    };
+    match base.kind {
+        Kind::Stream => run_on(pass, event, Kind::Stream, base),
+        Kind::Bankq => run_on(pass, event, Kind::Bankq, base),
+        Kind::Rtq => run_on(pass, event, Kind::Rtq, base),
+        Kind::Heap => run_on(pass, event, Kind::Heap, base),
+        Kind::Seq => run_on(pass, event, Kind::Seq, base),
+        _ => unreachable!(),
     }
 }
 

@@ -71,23 +71,23 @@ finish-requires g c =
     let law1 = g.met.R.Heap.lawful c.begin.new.heap in
     let law2 = g.met.R.Heap.lawful c.work-made.new.heap in
     record {
-      may = may_end v1 v2 c.args.caller c.args.name (direct_of (job p c.args.name j.op j.base j.other j.arg c.requires.may)) (event_of_call j.op j.base j.other j.arg) j.base.kind c.work-made.result law1 law2
+      may = may_end v1 v2 c.args.caller c.args.name (direct_of (job p c.args.name j.op j.base j.other j.arg c.requires.may)) (event_of_call j.op j.base j.other j.arg) c.args.kind c.work-made.result law1 law2
           (begun_working (begun_after g k) (drawn_name c.requires.idle c.requires.may.drawn)) (begun_after g k).here
           (direct_begun p c.args.name j.op j.base j.other j.arg c.requires.may v1 c.args.caller (begun_after g k) law1) (came g k)
-          (work_answer p c.args.name j.op j.base j.other j.arg c.requires.may law0 v2 law2 (grown g k) v1 c.work-made.result (worked g k));
+          (rw c.requires.kind at (work_answer p c.args.name j.op j.base j.other j.arg c.requires.may law0 v2 law2 (grown g k) v1 c.work-made.result (worked g k)));
     }
 
 pub returns-clause-idle : goal.returns-clause-idle
 returns-clause-idle g c =
     let j = c.args.job.now in
     let k = (goal.at.returns-clause-idle g c).After-work-made in
-    called_idle (g.R.Heap.view c.args.heap.now) (g.R.Heap.view c.begin.new.heap) (g.R.Heap.view c.work-made.new.heap) (g.R.Heap.view c.finish.new.heap) c.args.caller c.args.name _ (event_of_call j.op j.base j.other j.arg) j.base.kind c.work-made.result c.requires.idle c.requires.may.drawn (begun_after g k) (came g k) c.finish.ensures.ended
+    called_idle (g.R.Heap.view c.args.heap.now) (g.R.Heap.view c.begin.new.heap) (g.R.Heap.view c.work-made.new.heap) (g.R.Heap.view c.finish.new.heap) c.args.caller c.args.name _ (event_of_call j.op j.base j.other j.arg) c.args.kind c.work-made.result c.requires.idle c.requires.may.drawn (begun_after g k) (came g k) c.finish.ensures.ended
 
 pub returns-clause-caller : goal.returns-clause-caller
 returns-clause-caller g c =
     let j = c.args.job.now in
     let k = (goal.at.returns-clause-caller g c).After-work-made in
-    called_caller (g.R.Heap.view c.args.heap.now) (g.R.Heap.view c.begin.new.heap) (g.R.Heap.view c.work-made.new.heap) (g.R.Heap.view c.finish.new.heap) c.args.caller c.args.name _ (event_of_call j.op j.base j.other j.arg) j.base.kind c.work-made.result c.requires.idle c.requires.may.drawn (begun_after g k) (came g k) c.finish.ensures.ended c.requires.caller
+    called_caller (g.R.Heap.view c.args.heap.now) (g.R.Heap.view c.begin.new.heap) (g.R.Heap.view c.work-made.new.heap) (g.R.Heap.view c.finish.new.heap) c.args.caller c.args.name _ (event_of_call j.op j.base j.other j.arg) c.args.kind c.work-made.result c.requires.idle c.requires.may.drawn (begun_after g k) (came g k) c.finish.ensures.ended c.requires.caller
 
 pub returns-clause-ended : goal.returns-clause-ended
 returns-clause-ended g c =
@@ -98,8 +98,8 @@ returns-clause-ended g c =
     let p = pass_of v0 c.args.caller in
     let e = event_of_call j.op j.base j.other j.arg in
     let law1 = g.met.R.Heap.lawful c.begin.new.heap in
-    ended_so p (pass_of (g.R.Heap.view c.finish.new.heap) c.args.caller) c.args.name e j.base.kind c.work-made.result c.finish.result c.finish.ensures.answer
-    (called v0 v1 (g.R.Heap.view c.work-made.new.heap) (g.R.Heap.view c.finish.new.heap) c.args.caller c.args.name _ e j.base.kind c.work-made.result c.requires.idle c.requires.may.drawn (begun_after g k) (came g k) c.finish.ensures.ended
+    ended_so p (pass_of (g.R.Heap.view c.finish.new.heap) c.args.caller) c.args.name e c.args.kind c.work-made.result c.finish.result c.finish.ensures.answer
+    (called v0 v1 (g.R.Heap.view c.work-made.new.heap) (g.R.Heap.view c.finish.new.heap) c.args.caller c.args.name _ e c.args.kind c.work-made.result c.requires.idle c.requires.may.drawn (begun_after g k) (came g k) c.finish.ensures.ended
     law1 (g.met.R.Heap.lawful c.work-made.new.heap) (g.met.R.Heap.lawful c.finish.new.heap) (direct_begun p c.args.name j.op j.base j.other j.arg c.requires.may v1 c.args.caller (begun_after g k) law1))
 
 pub returns-clause-known : goal.returns-clause-known
@@ -107,9 +107,9 @@ returns-clause-known g c =
     let j = c.args.job.now in
     let k = (goal.at.returns-clause-known g c).After-work-made in
     let e = event_of_call j.op j.base j.other j.arg in
-    known_made (g.R.Heap.view c.finish.new.heap) c.args.caller c.args.name e j.base.kind c.work-made.result c.finish.result c.finish.ensures.answer
+    known_made (g.R.Heap.view c.finish.new.heap) c.args.caller c.args.name e c.args.kind c.work-made.result c.finish.result c.finish.ensures.answer
     (name_low (g.R.Heap.view c.args.heap.now) c.args.name (g.met.R.Heap.lawful c.args.heap.now) c.requires.may.drawn)
-    (ended_here (g.R.Heap.view c.args.heap.now) (g.R.Heap.view c.begin.new.heap) (g.R.Heap.view c.work-made.new.heap) (g.R.Heap.view c.finish.new.heap) c.args.caller c.args.name _ e j.base.kind c.work-made.result c.requires.idle c.requires.may.drawn (begun_after g k) (came g k) c.finish.ensures.ended)
+    (ended_here (g.R.Heap.view c.args.heap.now) (g.R.Heap.view c.begin.new.heap) (g.R.Heap.view c.work-made.new.heap) (g.R.Heap.view c.finish.new.heap) c.args.caller c.args.name _ e c.args.kind c.work-made.result c.requires.idle c.requires.may.drawn (begun_after g k) (came g k) c.finish.ensures.ended)
 
 pub returns-clause-outcome : goal.returns-clause-outcome
 returns-clause-outcome g c =
@@ -121,5 +121,5 @@ returns-clause-outcome g c =
     let v3 = g.R.Heap.view c.finish.new.heap in
     let e = event_of_call j.op j.base j.other j.arg in
     outcome_made (pass_of v0 c.args.caller) c.args.name j.op j.base j.other j.arg c.requires.may (g.met.R.Heap.lawful c.args.heap.now) v2 (g.met.R.Heap.lawful c.work-made.new.heap) (grown g k) v1 v3 c.work-made.result c.finish.result
-    (last_grows v0 v1 v2 v3 c.args.caller c.args.name _ e j.base.kind c.work-made.result c.requires.idle c.requires.may.drawn (begun_after g k) (came g k) c.finish.ensures.ended)
-    c.finish.ensures.answer (worked g k)
+    (last_grows v0 v1 v2 v3 c.args.caller c.args.name _ e c.args.kind c.work-made.result c.requires.idle c.requires.may.drawn (begun_after g k) (came g k) c.finish.ensures.ended)
+    (rw (sym c.requires.kind) at c.finish.ensures.answer) (worked g k)

@@ -1,107 +1,91 @@
-use Rattle.std.proofs.Common.{refl, sym, ◌∙◌, subst, arith}
-use Rattle.dues.proofs.RoomLaws.{due_fits}
-use Rattle.version_book.specs.Calls.{Ended}
-use Rattle.version_book.specs.Solo.{Ran}
-use Rattle.version_book.proofs.Charges.{charged_new, charged_call, charged_skip}
-use Rattle.version_book.proofs.InOrder.{HasTicket, ticket, out_of_names, solo_still, next_event, uses_ended, no_plan, built_new, new_is, may_extend, event_same, ran_call, ran_skip, not_new}
+use Rattle.std.proofs.Common.{◌≡◌, true, subst, rules}
+use Rattle.kind_table.specs.Kinds.{is_built}
+use Rattle.lazy_rec.specs.Kinds.{uses_base}
+use Rattle.heap_store.specs.Legal.{IsLegal}
+use Rattle.version_book.specs.Calls.{IsFound, Shown}
+use Rattle.version_book.specs.Pass.{Pass}
+use Rattle.version_book.specs.Solo.{IsSolo, ComesNext}
+use Rattle.version_book.proofs.InOrder.{same_pass, base_range, lost_base_of, uses_ended, built_on, not_new}
 use Rattle.version_book.proofs.solo.run_event.Goals as goal
+use Rattle.version_book.proofs.solo.run_event.Goals.{After-lookup, In-Found}
+
+pub lookup-requires : goal.lookup-requires
+lookup-requires g c =
+    let e = c.args.event.now in
+    let range = base_range c.args.pass.now e (uses_ended c.args.pass.now e c.requires.next (not_new e.op c.in_default.not-New)) in
+    record { low = range.0; high = range.1 }
+
+-- a look changes nothing on a pass whose store no other works on
+looked : (g : _) (c : After-lookup g) → c.lookup.new.self ≡ c.args.pass.now
+looked g c = same_pass c.requires.solo c.lookup.ensures.quiet c.lookup.ensures.same
+
+-- what the base's events ask, whatever its kind
+found : (g : _) (c : In-Found g) → IsSolo c.lookup.new.self × ComesNext c.lookup.new.self c.args.event.now × (uses_base c.args.event.now.op ≡ true) × IsFound c.lookup.new.self.view.seen c.args.event.now.base c.in-Found.base
+found g c =
+    let same = same_pass c.requires.solo c.lookup.ensures.quiet c.lookup.ensures.same in
+    (rw same c.requires.solo, rw same c.requires.next, not_new c.args.event.now.op c.in_default.not-New, rw c.in-Found.is at c.lookup.ensures.look)
+
+pub run_lost-requires : goal.run_lost-requires
+run_lost-requires g c =
+    let p = c.args.pass.now in
+    let e = c.args.event.now in
+    let same = looked g (goal.at.run_lost-requires g c).After-lookup in
+    let uses = uses_ended p e c.requires.next (not_new e.op c.in_default.not-New) in
+    let shown = subst (λ (q : Pass). Shown q.view.seen e.base c.lookup.result) same c.lookup.ensures.look in
+    record {
+      solo = rw same c.requires.solo;
+      next = rw same c.requires.next;
+      lost = rw same (lost_base_of p e uses c.lookup.result (subst (λ (q : Pass). IsLegal q.view.seen) same c.lookup.ensures.lawful.legal) shown c.in_default-lookup.not-Found);
+    }
+
+pub returns-in_default-lookup : goal.returns-in_default-lookup
+returns-in_default-lookup g c = rw (looked g (goal.at.returns-in_default-lookup g c).After-lookup) at c.run_lost.ensures
+
+pub run_on-requires : goal.run_on-requires
+run_on-requires g c =
+    let f = found g (goal.at.run_on-requires g c).In-Found in
+    record { solo = f.0; next = f.1; based = f.2; base = f.3; kind = c.in-Stream.is }
+
+pub returns-in-Stream : goal.returns-in-Stream
+returns-in-Stream g c = rw (looked g (goal.at.returns-in-Stream g c).After-lookup) at c.run_on.ensures
+
+pub run_on-requires-in-Bankq : goal.run_on-requires-in-Bankq
+run_on-requires-in-Bankq g c =
+    let f = found g (goal.at.run_on-requires-in-Bankq g c).In-Found in
+    record { solo = f.0; next = f.1; based = f.2; base = f.3; kind = c.in-Bankq.is }
+
+pub returns-in-Bankq : goal.returns-in-Bankq
+returns-in-Bankq g c = rw (looked g (goal.at.returns-in-Bankq g c).After-lookup) at c.run_on-in-Bankq.ensures
+
+pub run_on-requires-in-Rtq : goal.run_on-requires-in-Rtq
+run_on-requires-in-Rtq g c =
+    let f = found g (goal.at.run_on-requires-in-Rtq g c).In-Found in
+    record { solo = f.0; next = f.1; based = f.2; base = f.3; kind = c.in-Rtq.is }
+
+pub returns-in-Rtq : goal.returns-in-Rtq
+returns-in-Rtq g c = rw (looked g (goal.at.returns-in-Rtq g c).After-lookup) at c.run_on-in-Rtq.ensures
+
+pub run_on-requires-in-Heap : goal.run_on-requires-in-Heap
+run_on-requires-in-Heap g c =
+    let f = found g (goal.at.run_on-requires-in-Heap g c).In-Found in
+    record { solo = f.0; next = f.1; based = f.2; base = f.3; kind = c.in-Heap.is }
+
+pub returns-in-Heap : goal.returns-in-Heap
+returns-in-Heap g c = rw (looked g (goal.at.returns-in-Heap g c).After-lookup) at c.run_on-in-Heap.ensures
+
+pub run_on-requires-in-Seq : goal.run_on-requires-in-Seq
+run_on-requires-in-Seq g c =
+    let f = found g (goal.at.run_on-requires-in-Seq g c).In-Found in
+    record { solo = f.0; next = f.1; based = f.2; base = f.3; kind = c.in-Seq.is }
+
+pub returns-in-Seq : goal.returns-in-Seq
+returns-in-Seq g c = rw (looked g (goal.at.returns-in-Seq g c).After-lookup) at c.run_on-in-Seq.ensures
 
 pub unreachable-requires : goal.unreachable-requires
-unreachable-requires g c = out_of_names c.args.pass.now c.draw.new.self.view c.in_default.field-0 c.requires.solo c.requires.next c.in_default.ensures.err
-
-pub begin_new-requires : goal.begin_new-requires
-begin_new-requires g c =
+unreachable-requires g c =
     let p = c.args.pass.now in
-    let q = c.draw.new.self in
-    let t : HasTicket p q c.in-Ok.ticket.name = ticket c.requires.solo c.in-Ok.ensures.ok c.draw.ensures.same in
-    record {
-      drawn = t.drawn;
-      built = built_new p q c.in-Ok.ticket.name c.args.event.now c.requires.solo c.requires.next t c.in-New.kind c.in-New.is;
-      planned = λ events h. no_plan p q c.in-Ok.ticket.name c.args.event.now c.requires.solo c.requires.next t events h;
-    }
-
-pub returns-in-New : goal.returns-in-New
-returns-in-New g c =
-    let p = c.args.pass.now in
-    let q = c.draw.new.self in
     let e = c.args.event.now in
-    let r = c.begin_new.new.self in
-    let t : HasTicket p q c.in-Ok.ticket.name = ticket c.requires.solo c.in-Ok.ensures.ok c.draw.ensures.same in
-    let same = sym (new_is p q c.in-Ok.ticket.name e c.requires.solo c.requires.next t c.in-New.kind c.in-New.is) in
-    let ran : Ran p r e = ran_call p q r c.in-Ok.ticket.name e _ c.begin_new.result c.requires.solo c.requires.next t same c.begin_new.ensures.ended in
-    record {
-      ran = ran;
-      lawful = c.begin_new.ensures.lawful;
-      charged = c.due.ensures ∙ charged_new q r c.in-Ok.ticket.name e c.begin_new.ensures.lawful.legal (ran.named ∙ sym t.next) c.begin_new.result (subst (λ x. Ended q r c.in-Ok.ticket.name x c.begin_new.result) same c.begin_new.ensures.ended) c.in-New.kind c.in-New.is;
-      small = omega (arith, due_fits c.in-New.kind e.op 0 0, c.due.ensures);
-    }
-
-pub bases-requires : goal.bases-requires
-bases-requires g c =
-    let p = c.args.pass.now in
-    let q = c.draw.new.self in
-    let e = c.args.event.now in
-    let t : HasTicket p q c.in-Ok.ticket.name = ticket c.requires.solo c.in-Ok.ensures.ok c.draw.ensures.same in
-    record {
-      solo = solo_still p q c.in-Ok.ticket.name e c.requires.solo c.requires.next t;
-      uses = uses_ended p q c.in-Ok.ticket.name e c.requires.solo c.requires.next t (not_new e.op c.in_default-op.not-New);
-    }
-
-pub call_as-requires : goal.call_as-requires
-call_as-requires g c =
-    let p = c.args.pass.now in
-    let q = c.draw.new.self in
-    let e = c.args.event.now in
-    let t : HasTicket p q c.in-Ok.ticket.name = ticket c.requires.solo c.in-Ok.ensures.ok c.draw.ensures.same in
-    let based = not_new e.op c.in_default-op.not-New in
-    let same = c.bases.ensures.same in
-    record {
-      event = sym (event_same p q c.in-Ok.ticket.name e c.requires.solo c.requires.next t c.draw.ensures.lawful.legal based c.in-Some.base c.in-Some.other c.in-Some.ensures.bases);
-      may = rw same (may_extend p q c.in-Ok.ticket.name e c.requires.solo c.requires.next t c.draw.ensures.lawful.legal based c.in-Some.base c.in-Some.other c.in-Some.ensures.bases);
-      alone = rw same (solo_still p q c.in-Ok.ticket.name e c.requires.solo c.requires.next t).alone;
-    }
-
-pub skip-requires : goal.skip-requires
-skip-requires g c =
-    let p = c.args.pass.now in
-    let q = c.draw.new.self in
-    let e = c.args.event.now in
-    let t : HasTicket p q c.in-Ok.ticket.name = ticket c.requires.solo c.in-Ok.ensures.ok c.draw.ensures.same in
-    let same = c.bases.ensures.same in
-    record {
-      drawn = rw same t.drawn;
-      event = rw same (next_event p q c.in-Ok.ticket.name e c.requires.solo c.requires.next t);
-      lost = rw same c.in-None.ensures.lost;
-    }
-
-pub returns-in-Some : goal.returns-in-Some
-returns-in-Some g c =
-    let p = c.args.pass.now in
-    let q = c.draw.new.self in
-    let r = c.call_as.new.self in
-    let e = c.args.event.now in
-    let t : HasTicket p q c.in-Ok.ticket.name = ticket c.requires.solo c.in-Ok.ensures.ok c.draw.ensures.same in
-    let ended = rw c.bases.ensures.same at c.call_as.ensures.ended in
-    let ran : Ran p r e = ran_call p q r c.in-Ok.ticket.name e _ c.call_as.result c.requires.solo c.requires.next t refl ended in
-    record {
-      ran = ran;
-      lawful = c.call_as.ensures.lawful;
-      charged = c.charge.ensures.value ∙ charged_call q r c.in-Ok.ticket.name e c.call_as.ensures.lawful.legal (ran.named ∙ sym t.next) c.call_as.result ended c.in-Some.base c.in-Some.other (not_new e.op c.in_default-op.not-New) c.in-Some.ensures.bases;
-      small = c.charge.ensures.small;
-    }
-
-pub returns-in-None : goal.returns-in-None
-returns-in-None g c =
-    let p = c.args.pass.now in
-    let q = c.draw.new.self in
-    let r = c.skip.new.self in
-    let e = c.args.event.now in
-    let t : HasTicket p q c.in-Ok.ticket.name = ticket c.requires.solo c.in-Ok.ensures.ok c.draw.ensures.same in
-    let called = rw c.bases.ensures.same at c.skip.ensures.skipped in
-    let ran : Ran p r e = ran_skip p q r c.in-Ok.ticket.name e c.requires.solo c.requires.next t called in
-    record {
-      ran = ran;
-      lawful = c.skip.ensures.lawful;
-      charged = charged_skip q r c.in-Ok.ticket.name e c.skip.ensures.lawful.legal (ran.named ∙ sym t.next) called;
-      small = omega arith;
-    }
+    let same = looked g (goal.at.unreachable-requires g c).After-lookup in
+    let f = found g (goal.at.unreachable-requires g c).In-Found in
+    let built : is_built c.in-Found.base.kind e.op ≡ true = built_on p e c.in-Found.base (subst (λ (q : Pass). IsLegal q.view.seen) same c.lookup.ensures.lawful.legal) c.requires.next f.2 (rw same at f.3) in
+    search rules
