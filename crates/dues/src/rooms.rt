@@ -1,15 +1,15 @@
 //! The room of a script and the sum of its size bounds, in one pass over its events.
 
-ghost use Rattle.std.specs.Prelude.{◌≡◌, ℕ, suc, ◌+◌, ◌*◌, ◌≤◌, ◌<◌, ◌^◌, [], ◌∷◌, min, cond, List, IfOk, IfSome, length, slice_get, vec_capacity};
+ghost use Rattle.std.specs.Prelude.{◌≡◌, ℕ, suc, ◌+◌, ◌*◌, ◌≤◌, ◌<◌, ◌^◌, [], ◌∷◌, min, cond, List, IfOk, IfSome, false, length, slice_get, vec_capacity};
 ghost use Rattle.lazy_rec.specs.declared.events.Event.{Event};
 ghost use Rattle.lazy_rec.specs.declared.limits.TheConstants.{MOST_EVENTS};
 ghost use Rattle.lazy_rec.specs.Kinds.{is_split};
 ghost use Rattle.lazy_rec.specs.History.{event_name, event_of, kind_of, IsScript};
-ghost use Rattle.dues.specs.Sizes.{second_bound};
+ghost use Rattle.dues.specs.Sizes.{size_bound, second_bound};
 ghost use Rattle.dues.specs.Rooms.{room, room_at_sizes, places, places_of, places_at_size, model_size};
 ghost use Rattle.dues.specs.Versions.{no_bounds, bound_at, next_bounds, next_places};
 
-use crate::sizes::{bound_from_base, joined, second_bound};
+use crate::sizes::{bound_from_base, joined, one_less, one_more, second_bound};
 use crate::tables::{digits, direct, due};
 use lazy_rec::{Event, Kind, NoMemory, Op, event_name, is_second};
 use std::alloc::Global;
@@ -61,7 +61,7 @@ fn bound_of_second(event: &Event, b1: u32) -> u32
 }
 
 /// The size bounds of the versions that an event makes, from the bound `b1` of its base.
-#[inline(always)]
+#[inline(never)]
 fn next_bounds(kept: &[SizeBounds], event: &Event, b1: u32) -> SizeBounds
     requires base { b1 ≡ bound_at kept.now event.now.base }
     requires other { event_name event.now.other < length kept.now }
@@ -77,7 +77,8 @@ fn next_bounds(kept: &[SizeBounds], event: &Event, b1: u32) -> SizeBounds
     }
 }
 
-/// The places that an event of a kind may take, where they don't depend on the sizes of its bases.
+/// The places that an event of a kind may take, where they don't depend on the sizes of its bases. An insert into a heap isn't among
+/// them, though it takes a fixed number: a script that fills a heap also takes minimums, so its first insert tells that sizes count.
 #[inline(always)]
 fn fixed_places(kind: Kind, op: Op) -> Option<u64>
     ensures { IfSome result (λ p. (n m : ℕ) → places kind op n m ≡ p) }
@@ -91,23 +92,7 @@ fn fixed_places(kind: Kind, op: Op) -> Option<u64>
         (Kind::Bankq | Kind::Rtq, Op::Snoc) => Some(3 + 8),
         (Kind::Bankq, Op::Tail) => Some(2 + 8 * 2),
         (Kind::Rtq, Op::Tail) => Some(2 + 8),
-        (Kind::Heap, Op::Insert) => Some(2 + 8 * 2),
         (Kind::Cat, Op::Cons | Op::Snoc | Op::Append) => Some(6 + 8),
-        _ => None,
-    }
-}
-
-/// The same where they depend on the size bound `n1` of its base alone, of the operations that scripts have most of.
-#[inline(always)]
-fn places_by_base(kind: Kind, op: Op, n1: u32) -> Option<u64>
-    ensures { IfSome result (λ p. (m : ℕ) → places kind op n1 m ≡ p) }
-{
-    let n = n1 as u64;
-    match (op, kind) {
-        (Op::Min, Kind::Heap) => Some(1 + 8 * digits(n)),
-        (Op::Delmin, Kind::Heap) => Some(2 * digits(n) + 3 + 8 * 2 * digits(n)),
-        (Op::Pushl | Op::Pushr, Kind::Seq) => Some(6 + 8 * digits(n + 1)),
-        (Op::Popl | Op::Popr, Kind::Seq) => Some(6 + 8 * digits(n)),
         _ => None,
     }
 }
@@ -121,19 +106,62 @@ fn places_by_size(kind: Kind, op: Op, n1: u32, n2: u32) -> u64
 }
 
 /// The same, from the bound `n1` of its base. It looks at its other version only where the places may depend on it.
-#[inline(always)]
+#[inline(never)]
 fn next_places(kept: &[SizeBounds], kind: Kind, event: &Event, n1: u32) -> u64
     requires base { n1 ≡ bound_at kept.now event.now.base }
     requires other { event_name event.now.other < length kept.now }
     ensures { result ≡ next_places kept.now kind event.now }
 {
-    if let Some(places) = places_by_base(kind, event.op, n1) {
-        return places;
-    }
     if let Some(places) = fixed_places(kind, event.op) {
         return places;
     }
     places_by_size(kind, event.op, n1, bound_at(kept, event.other))
+}
+
+/// The places of an event and the size bound of the one version that it makes, of the operations that scripts of heaps and sequences
+/// have most. Both depend on the size bound `n1` of its base alone, and one look at the operation tells them.
+#[inline(always)]
+fn count_by_base(kind: Kind, op: Op, n1: u32) -> Option<(u64, u32)>
+    ensures places { IfSome result (λ counted. (m : ℕ) → places kind op n1 m ≡ counted.0) }
+    ensures bound { IfSome result (λ counted. (m x : ℕ) → size_bound op n1 m x ≡ counted.1) }
+    ensures one { IfSome result (λ counted. is_split op ≡ false) }
+{
+    let n = n1 as u64;
+    match (op, kind) {
+        (Op::Insert, Kind::Heap) => Some((2 + 8 * 2, one_more(n1))),
+        (Op::Min, Kind::Heap) => Some((1 + 8 * digits(n), n1)),
+        (Op::Delmin, Kind::Heap) => Some((2 * digits(n) + 3 + 8 * 2 * digits(n), one_less(n1))),
+        (Op::Pushl | Op::Pushr, Kind::Seq) => Some((6 + 8 * digits(n + 1), one_more(n1))),
+        (Op::Popl | Op::Popr, Kind::Seq) => Some((6 + 8 * digits(n), one_less(n1))),
+        _ => None,
+    }
+}
+
+/// What one pass counts of an event: its places, and the size bounds of the versions that it makes.
+#[derive(Clone, Copy)]
+struct Counted {
+    places: u64,
+    bounds: SizeBounds,
+}
+
+/// What an event counts, from the bound `n1` of its base: at once where this is enough, else by the tables.
+#[inline(always)]
+fn count_event(kept: &[SizeBounds], kind: Kind, event: &Event, n1: u32) -> Counted
+    requires base { n1 ≡ bound_at kept.now event.now.base }
+    requires other { event_name event.now.other < length kept.now }
+    ensures places { result.places ≡ next_places kept.now kind event.now }
+    ensures bounds { (result.bounds.first, result.bounds.second) ≡ next_bounds kept.now event.now }
+{
+    match count_by_base(kind, event.op, n1) {
+        Some((places, first)) => Counted {
+            places,
+            bounds: SizeBounds { first, second: 0 },
+        },
+        None => Counted {
+            places: next_places(kept, kind, event, n1),
+            bounds: next_bounds(kept, event, n1),
+        },
+    }
 }
 
 /// The room of a script, or `most` where this is less. The room is the sum over its events of `direct + 8 * due`, at the size
@@ -153,19 +181,19 @@ pub fn room(alloc: Global, kinds: &[Kind], events: &[Event], most: u64) -> Resul
         let event = &events[i];
         let seen = kept.as_slice();
         let base = bound_at(seen, event.base);
-        let places = next_places(seen, kinds[i], event, base);
-        let Some(rest) = left.checked_sub(places) else {
+        let counted = count_event(seen, kinds[i], event, base);
+        let Some(rest) = left.checked_sub(counted.places) else {
             return Ok(most);
         };
         left = rest;
-        let bounds = next_bounds(seen, event, base);
-        kept.push_reserved(bounds);
+        kept.push_reserved(counted.bounds);
     }
     Ok(most - left)
 }
 
-/// The room where no event's places depend on sizes, as in a script of queues; else nothing. It reads the kinds of the events, in
-/// order, and takes no memory. Such events take at most 18 places each, so that a limit would hardly end the pass earlier.
+/// The room where no event's places depend on sizes and none is an insert into a heap, as in a script of queues; else nothing. It
+/// reads the kinds of the events, in order, and takes no memory. Such events take at most 18 places each, so that a limit would hardly
+/// end the pass earlier.
 #[inline(never)]
 pub fn fixed_room(kinds: &[Kind], events: &[Event]) -> Option<u64>
     requires script { IsScript events.now }

@@ -25,10 +25,18 @@ fn rest_of(bound: u32, count: u64) -> u32
 
 /// One item more, as far as a version may have it.
 #[inline(always)]
-fn one_more(bound: u32) -> u32
+pub(crate) fn one_more(bound: u32) -> u32
     ensures { result ≡ at_most_all (bound + 1) }
 {
     bound.min(MOST_ITEMS - 1) + 1
+}
+
+/// One item less.
+#[inline(always)]
+pub(crate) fn one_less(bound: u32) -> u32
+    ensures { result ≡ bound - 1 }
+{
+    bound.saturating_sub(1)
 }
 
 /// The most items of what two versions have together.
@@ -49,7 +57,7 @@ pub(crate) fn bound_from_base(event: &Event, b1: u32) -> Option<u32>
         Op::New(_) => Some(0),
         Op::Cons | Op::Snoc | Op::Insert | Op::Pushl | Op::Pushr => Some(one_more(b1)),
         Op::Append | Op::Meld | Op::Concat => None,
-        Op::Tail | Op::Delmin | Op::Delmax | Op::Popl | Op::Popr => Some(b1.saturating_sub(1)),
+        Op::Tail | Op::Delmin | Op::Delmax | Op::Popl | Op::Popr => Some(one_less(b1)),
         Op::Take | Op::Split => Some(first_of(b1, event.arg)),
         Op::Drop => Some(rest_of(b1, event.arg)),
         _ => Some(b1),
